@@ -1,0 +1,5 @@
+-- Laws of the words of specs/.
+pub mod Loads
+pub mod Search
+pub mod Digits
+pub mod Bytes

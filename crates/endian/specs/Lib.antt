@@ -1,0 +1,3 @@
+-- The words that every promise of the library is stated in.
+pub mod Loops
+pub mod Bytes
