@@ -1,0 +1,3 @@
+-- The definitions that the contracts of floats cite.
+pub mod Rules
+pub mod Position

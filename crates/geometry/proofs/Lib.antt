@@ -1,0 +1,3 @@
+-- The laws of the definitions, shared by the functions' proofs and by other crates.
+pub mod Levels
+pub mod Entries

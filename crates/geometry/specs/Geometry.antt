@@ -1,0 +1,76 @@
+-- Levels, brick counts, extents, entry numbers, item numbers and the header's end, as the build paper says them.
+-- A cube has a, b and c bricks in the inline, crossline and vertical direction at level 0.
+use Prim.Native.Nat.{ℕ, zero, suc, _+_, _-_, _*_, _/_, _^_, _≤_, _<_}
+use lib.Dec.{eqb}
+use Rattle.endian.specs.Loops.{first, sumTo, tri}
+use Rattle.geometry.specs.declared.Shape.{Shape}
+
+-- n / d, rounded up
+abbrev pub ceilDiv : ℕ → ℕ → ℕ
+ceilDiv n d = (n + (d - 1)) / d
+
+-- the bricks of level l in a direction that has n at level 0: each next level has half, rounded up
+unfoldable pub halved : ℕ → ℕ → ℕ
+halved n zero = n
+halved n (suc l) = (halved n l + 1) / 2
+
+-- a level's extent in samples, in a direction
+abbrev pub extent : ℕ → ℕ → ℕ
+extent size l = ceilDiv size (2 ^ l)
+
+-- the bricks of level l
+abbrev pub bricksAt : ℕ → ℕ → ℕ → ℕ → ℕ
+bricksAt a b c l = halved a l * halved b l * halved c l
+
+-- levels, to the first with one brick. 20 is past the last level of any allowed size (law `last-one`)
+abbrev pub levels : ℕ → ℕ → ℕ → ℕ
+levels a b c = first (λ l. eqb (bricksAt a b c l) 1) 20 + 1
+
+-- the bricks of all levels
+abbrev pub bricks : ℕ → ℕ → ℕ → ℕ
+bricks a b c = sumTo (bricksAt a b c) (levels a b c)
+
+-- the alpha tiles of all levels: inline x crossline bricks over the same levels
+abbrev pub alphas : ℕ → ℕ → ℕ → ℕ
+alphas a b c = sumTo (λ l. halved a l * halved b l) (levels a b c)
+
+-- the entries before those of level l: level 0 comes first
+unfoldable pub levelBase : ℕ → ℕ → ℕ → ℕ → ℕ
+levelBase a b c l = sumTo (bricksAt a b c) l
+
+-- the entry number of brick (i, j, k) of level l: inside a level inline runs fastest and vertical slowest
+unfoldable pub entryOf : ℕ → ℕ → ℕ → ℕ → ℕ → ℕ → ℕ → ℕ
+entryOf a b c l i j k = levelBase a b c l + tri (halved b l) (halved a l) k j i
+
+-- the item number of (i, j, k) inside a brick whose second and third sides are s1 and s2: vertical runs fastest
+abbrev pub itemOf : ℕ → ℕ → ℕ → ℕ → ℕ → ℕ
+itemOf s1 s2 i j k = tri s1 s2 i j k
+
+-- the bytes of a brick with these sides and items of w bytes
+abbrev pub brickBytes : ℕ → ℕ → ℕ → ℕ → ℕ
+brickBytes s0 s1 s2 w = s0 * s1 * s2 * w
+
+-- where the brick table starts: after 346 bytes, the text, the histogram and the alpha table
+abbrev pub tableStart : ℕ → ℕ → ℕ
+tableStart text alpha = 346 + text + 2064 + 8 * alpha
+
+-- the end of the headers
+abbrev pub headerEnd : ℕ → ℕ → ℕ → ℕ
+headerEnd text alpha brick = tableStart text alpha + 8 * brick
+
+-- the levels and the bricks and alpha tiles of all levels
+abbrev pub shapeOf : ℕ → ℕ → ℕ → Shape
+shapeOf a b c = record { levels = levels a b c; bricks = bricks a b c; alphas = alphas a b c }
+
+-- counts so small that no product or sum of them wraps: an allowed size by the least side, 1,048,576 / 4, in each direction
+pub record Small (a b c : ℕ) : Type 0 where
+  pub inline : a ≤ 262144
+  pub crossline : b ≤ 262144
+  pub vertical : c ≤ 262144
+
+-- brick (i, j, k) of level l is one of the cube's
+pub record Brick (a b c l i j k : ℕ) : Type 0 where
+  pub level : l < levels a b c
+  pub inline : i < halved a l
+  pub crossline : j < halved b l
+  pub vertical : k < halved c l

@@ -1,0 +1,3 @@
+-- The definitions that the contracts of geometry cite.
+pub mod Geometry
+pub mod Laws

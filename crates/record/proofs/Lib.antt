@@ -1,0 +1,2 @@
+-- Laws of the record's definitions.
+pub mod Laws
