@@ -16,15 +16,16 @@ inc-held : (c : tie.Start) → T (fits binary32 (c .args .inc))
 inc-held c = subst T (sym (c .good .1 .0 .1)) tt
 
 float-to-float-result : tie.Need-float-to-float-result
-float-to-float-result c = widens (c .before .args .orig) (orig-held (c .before)) (c .before .pre .0)
+float-to-float-result c = let a = orig-held (c .before) in let b = inc-held (c .before) in search (widens, needs)
 
 int-to-float-result : tie.Need-int-to-float-result
 int-to-float-result c = search needs
 
 float-to-float-result-2 : tie.Need-float-to-float-result-2
 float-to-float-result-2 c =
-    let s = c .before .before .before in
-    widens (s .args .inc) (inc-held s) (s .pre .1)
+    let a = orig-held (c .before .before .before) in
+    let b = inc-held (c .before .before .before) in
+    search (widens, needs)
 
 returns : tie.Need-returns
 unfolding positionOf

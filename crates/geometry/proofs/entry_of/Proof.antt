@@ -1,6 +1,6 @@
 -- `geometry::entry_of` meets its contract. Assumes nothing.
 use Prim.Native.Nat.{_+_}
-use mathlib.Core.Path.{_≡_}
+use mathlib.Core.Path.{_≡_, sym}
 use native.Mathlib.Omega.{arith}
 use borrow.Author.Needs.{needs}
 use Rattle.geometry.specs.Geometry.{entryOf}
@@ -34,7 +34,8 @@ returns : tie.Need-returns
 returns c =
     let s = c .before .before .before .before .before .args in
     let h = c .before .before .before .before .before .pre in
-    let e : c .before .before .before .before .level-base .result + c .place .result ≡ entryOf (s .a) (s .b) (s .c) (s .l) (s .i) (s .j) (s .k) = cc (entry-is (s .a) (s .b) (s .c) (s .l) (s .i) (s .j) (s .k), c .place .ensures .0, c .before .before .before .before .level-base .ensures .0) in
+    let e : c .before .before .before .before .level-base .result + c .place .result ≡ entryOf (s .a) (s .b) (s .c) (s .l) (s .i) (s .j) (s .k) =
+    rw (c .before .before .before .before .level-base .ensures .0, c .place .ensures .0, c .before .before .halved2 .ensures, c .before .halved3 .ensures) (sym (entry-is (s .a) (s .b) (s .c) (s .l) (s .i) (s .j) (s .k))) in
     (e, rw e (entry-below (s .a) (s .b) (s .c) (h .1)))
 
 pub entry-of-spec : {M : Type 1} → statement M

@@ -1,0 +1,115 @@
+-- What a description owes that passes checks 4 to 9. Assumes nothing.
+use mathlib.Core.Bool.{Bool, true, false, not, cond, _&&_, _||_, false≢true}
+use mathlib.Core.List.{List}
+use mathlib.Core.Logic.{_⊎_, inl, inr, ⊎-elim}
+use mathlib.Core.Path.{_≡_, refl, sym, _∙_}
+use Prim.Native.Nat.{ℕ, _≤_, _<_}
+use native.Mathlib.Omega.{arith}
+use lib.Dec.{eqb, leb}
+use lib.ListN.{getD}
+use borrow.Author.Tests.{eqb-true, leb-true, ltb-false}
+use Rattle.record.specs.Answers.{refused}
+use Rattle.record.specs.Record.{sideOf, sizeOf, bricksOf, Between, Sized}
+use Rattle.record.specs.declared.Description.{Description}
+use Rattle.record.specs.declared.Verdict.{Verdict}
+use Rattle.record.specs.declared.Verdict.the-variants.{Taken, Refused}
+use Rattle.checks.specs.Checks.{all3, sideOk, sizeOk, brickLimit, breaks4, breaks5, breaks6, breaks7, breaks8, breaks9, described}
+
+-- one check peeled off: it did not apply, and the later ones took the call
+pub passed : (b : Bool) (n : ℕ) (later : Verdict) → cond b (refused n) later ≡ Taken → (b ≡ false) × (later ≡ Taken)
+passed true n later e = let z : _≡_ {A = ℕ} 0 1 = cc in absurd (omega arith)
+passed false n later e = (refl, e)
+
+pub not-false : (b : Bool) → not b ≡ false → b ≡ true
+not-false true e = refl
+not-false false e = absurd (false≢true (sym e))
+
+pub both : (a b : Bool) → a && b ≡ true → (a ≡ true) × (b ≡ true)
+both true b e = (refl, e)
+both false b e = absurd (false≢true e)
+
+pub either : (a b : Bool) → a || b ≡ true → (a ≡ true) ⊎ (b ≡ true)
+either true b e = inl refl
+either false b e = inr e
+
+-- what holds of all three directions holds of each
+pub all3-each : (p : ℕ → Bool) (l : List ℕ) → all3 p l ≡ true → (p (getD l 0 0) ≡ true) × (p (getD l 1 0) ≡ true) × (p (getD l 2 0) ≡ true)
+all3-each p l e =
+    let x = both (p (getD l 0 0) && p (getD l 1 0)) (p (getD l 2 0)) e in
+    let y = both (p (getD l 0 0)) (p (getD l 1 0)) (x .0) in
+    (y .0, y .1, x .1)
+
+-- what holds of 4, 8, 16, 32 and 64 holds of an allowed side
+pub side-each : (P : ℕ → Type 0) → P 4 → P 8 → P 16 → P 32 → P 64 → (n : ℕ) → sideOk n ≡ true → P n
+unfolding sideOk
+side-each P p4 p8 p16 p32 p64 n e =
+    ⊎-elim
+    (λ e64. ⊎-elim
+    (λ e32. ⊎-elim
+    (λ e16. ⊎-elim (key 4 p4) (key 8 p8) (either (eqb n 4) (eqb n 8) e16))
+    (key 16 p16)
+    (either (eqb n 4 || eqb n 8) (eqb n 16) e32))
+    (key 32 p32)
+    (either (eqb n 4 || eqb n 8 || eqb n 16) (eqb n 32) e64))
+    (key 64 p64)
+    (either (eqb n 4 || eqb n 8 || eqb n 16 || eqb n 32) (eqb n 64) e)
+  where
+    key : (k : ℕ) → P k → eqb n k ≡ true → P n
+    key k p q = rw (eqb-true n k q) p
+
+pub side-range : (n : ℕ) → sideOk n ≡ true → Between 4 256 n
+side-range =
+    side-each (Between 4 256)
+    (record { low = omega arith; high = omega arith })
+    (record { low = omega arith; high = omega arith })
+    (record { low = omega arith; high = omega arith })
+    (record { low = omega arith; high = omega arith })
+    (record { low = omega arith; high = omega arith })
+
+pub size-range : (n : ℕ) → sizeOk n ≡ true → Between 1 1048576 n
+unfolding sizeOk
+size-range n e = let p = both (leb 1 n) (leb n 1048576) e in record { low = leb-true 1 n (p .0); high = leb-true n 1048576 (p .1) }
+
+-- sides and sizes that checks 4 and 6 let pass
+pub sized : (d : Description) → breaks4 d ≡ false → breaks6 d ≡ false → Sized d
+unfolding breaks4 breaks6
+sized d e4 e6 =
+    let s = all3-each sideOk (d .side) (not-false (all3 sideOk (d .side)) e4) in
+    let n = all3-each sizeOk (d .size) (not-false (all3 sizeOk (d .size)) e6) in
+    record { side0 = side-range _ (s .0); side1 = side-range _ (s .1); side2 = side-range _ (s .2); size0 = size-range _ (n .0); size1 = size-range _ (n .1); size2 = size-range _ (n .2) }
+
+-- checks 4 to 9, none of which applies
+pub record Described (d : Description) (t : ℕ) : Type 0 where
+  pub not4 : breaks4 d ≡ false
+  pub not5 : breaks5 d ≡ false
+  pub not6 : breaks6 d ≡ false
+  pub not7 : breaks7 d ≡ false
+  pub not8 : breaks8 d ≡ false
+  pub not9 : breaks9 t ≡ false
+
+pub described-all : (d : Description) (t : ℕ) → described d t ≡ Taken → Described d t
+unfolding described
+described-all d t e =
+    let a = passed _ _ _ e in
+    let b = passed _ _ _ (a .1) in
+    let c = passed _ _ _ (b .1) in
+    let f = passed _ _ _ (c .1) in
+    let g = passed _ _ _ (f .1) in
+    let h = passed _ _ _ (g .1) in
+    record { not4 = a .0; not5 = b .0; not6 = c .0; not7 = f .0; not8 = g .0; not9 = h .0 }
+
+pub described-is : (d : Description) (t : ℕ) → Described d t → described d t ≡ Taken
+unfolding described
+described-is d t p = simp (p .not4, p .not5, p .not6, p .not7, p .not8, p .not9)
+
+module _ (d : Description) (t : ℕ) (p : Described d t) where
+  pub described-sized : Sized d
+  described-sized = sized d (p .not4) (p .not6)
+
+  pub described-few : bricksOf d ≤ brickLimit
+  unfolding breaks8
+  described-few = ltb-false brickLimit (bricksOf d) (p .not8)
+
+  pub described-text : (5 ≤ t) × (t ≤ 65536)
+  unfolding breaks9
+  described-text = let q = both (leb 5 t) (leb t 65536) (not-false (leb 5 t && leb t 65536) (p .not9)) in (leb-true 5 t (q .0), leb-true t 65536 (q .1))

@@ -1,0 +1,3 @@
+-- Laws of the checks.
+pub mod Texts
+pub mod Described

@@ -1,0 +1,12 @@
+-- `checks::side_ok` meets its contract. Assumes nothing.
+use borrow.Author.Needs.{needs}
+use Rattle.checks.specs.Checks.{sideOk}
+use Rattle.checks.proofs.side_ok.Statement.{statement}
+use Rattle.checks.proofs.side_ok.Tie as tie
+
+returns : tie.Need-returns
+unfolding sideOk
+returns c = search needs
+
+pub side-ok-spec : {M : Type 1} → statement M
+side-ok-spec = tie.close (tie.spec returns)

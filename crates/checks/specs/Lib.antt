@@ -1,0 +1,3 @@
+-- The definitions that the contracts of checks cite.
+pub mod Checks
+pub mod Fits
