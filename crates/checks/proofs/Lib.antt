@@ -1,3 +1,4 @@
 -- Laws of the checks.
 pub mod Texts
 pub mod Described
+pub mod Records
