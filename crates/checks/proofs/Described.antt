@@ -4,12 +4,15 @@ use mathlib.Core.List.{List}
 use mathlib.Core.Logic.{_⊎_, inl, inr, ⊎-elim}
 use mathlib.Core.Path.{_≡_, refl, sym, _∙_}
 use Prim.Native.Nat.{ℕ, _≤_, _<_}
+use native.Mathlib.Nat.{mul-pos}
 use native.Mathlib.Omega.{arith}
 use lib.Dec.{eqb, leb}
 use lib.ListN.{getD}
 use borrow.Author.Tests.{eqb-true, leb-true, ltb-false}
 use Rattle.record.specs.Answers.{refused}
-use Rattle.record.specs.Record.{sideOf, sizeOf, bricksOf, Between, Sized}
+use Rattle.record.specs.Types.{codingOf, itemWidth, noType, widthOf}
+use Rattle.record.specs.Record.{bricksOf, brickBytesOf, Between, Sized}
+use Rattle.record.specs.declared.Coding.{Coding}
 use Rattle.record.specs.declared.Description.{Description}
 use Rattle.record.specs.declared.Verdict.{Verdict}
 use Rattle.record.specs.declared.Verdict.the-variants.{Taken, Refused}
@@ -113,3 +116,30 @@ module _ (d : Description) (t : ℕ) (p : Described d t) where
   pub described-text : (5 ≤ t) × (t ≤ 65536)
   unfolding breaks9
   described-text = let q = both (leb 5 t) (leb t 65536) (not-false (leb 5 t && leb t 65536) (p .not9)) in (leb-true 5 t (q .0), leb-true t 65536 (q .1))
+
+-- a type that check 5 lets pass has items of 1, 2 or 4 bytes
+pub type-width : (k : ℕ) → noType (codingOf k) ≡ false → (widthOf k ≡ 1) ⊎ ((widthOf k ≡ 2) ⊎ (widthOf k ≡ 4))
+unfolding widthOf codingOf
+type-width k e = go (eqb k 0) (eqb k 2) (eqb k 6) e
+  where
+    coding : Bool → Bool → Bool → Coding
+    coding a b c = cond a (Coding.Scaled 1 128) (cond b (Coding.Scaled 2 32768) (cond c (Coding.Float32 4) (Coding.NoType (record { number = 5; entry = 0 }))))
+
+    go : (a b c : Bool) → noType (coding a b c) ≡ false → (itemWidth (coding a b c) ≡ 1) ⊎ ((itemWidth (coding a b c) ≡ 2) ⊎ (itemWidth (coding a b c) ≡ 4))
+    go true b c q = inl refl
+    go false true c q = inr (inl refl)
+    go false false true q = inr (inr refl)
+    go false false false q = absurd (false≢true (sym q))
+
+module _ (d : Description) (t : ℕ) (p : Described d t) where
+  pub described-width : (widthOf (d .datatype) ≡ 1) ⊎ ((widthOf (d .datatype) ≡ 2) ⊎ (widthOf (d .datatype) ≡ 4))
+  unfolding breaks5
+  described-width = type-width (d .datatype) (p .not5)
+
+  -- a brick has at least one byte
+  pub described-brick : 0 < brickBytesOf d
+  unfolding brickBytesOf
+  described-brick =
+      let s = described-sized d t p in
+      mul-pos (mul-pos (mul-pos (omega (arith, s .side0 .low)) (omega (arith, s .side1 .low))) (omega (arith, s .side2 .low)))
+      (⊎-elim (λ (e : widthOf (d .datatype) ≡ 1). omega arith) (⊎-elim (λ (e : widthOf (d .datatype) ≡ 2). omega arith) (λ (e : widthOf (d .datatype) ≡ 4). omega arith)) described-width)

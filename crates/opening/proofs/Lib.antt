@@ -1,0 +1,5 @@
+-- Laws of opening.
+pub mod Header
+pub mod Entries
+pub mod Answers
+pub mod Rules

@@ -1,0 +1,3 @@
+-- The definitions that the contracts of table cite.
+pub mod Entries
+pub mod Windows
