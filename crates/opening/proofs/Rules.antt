@@ -197,9 +197,10 @@ module _ (d : Description) where
   rule7-of e =
       let f = finites d e in
       let o = all3-each finiteBits (d .orig) (f .origs) in
-      let n = all3-each finiteBits (d .inc) (f .incs) in
-      (each-of (λ i. Finite (getD (d .orig) i 0) × Finite (getD (d .inc) i 0)) (truth _ (o .0), truth _ (n .0)) (truth _ (o .1), truth _ (n .1)) (truth _ (o .2), truth _ (n .2)),
-      ⊎-elim (λ (q : eqb (d .datatype) 6 ≡ true). inl (eqb-true (d .datatype) 6 q)) (λ (q : rangeOk (getD (d .range) 0 0) (getD (d .range) 1 0) ≡ true). let r = range-finite _ _ q in inr (record { min-finite = truth _ (r .0); max-finite = truth _ (r .1); below = truth _ (r .2) })) (f .coded))
+      let n = all3-each finiteBits (d .inc) (f .incs) in (
+        each-of (λ i. Finite (getD (d .orig) i 0) × Finite (getD (d .inc) i 0)) (truth _ (o .0), truth _ (n .0)) (truth _ (o .1), truth _ (n .1)) (truth _ (o .2), truth _ (n .2)),
+        ⊎-elim (λ (q : eqb (d .datatype) 6 ≡ true). inl (eqb-true (d .datatype) 6 q)) (λ (q : rangeOk (getD (d .range) 0 0) (getD (d .range) 1 0) ≡ true). let r = range-finite _ _ q in inr (record { min-finite = truth _ (r .0); max-finite = truth _ (r .1); below = truth _ (r .2) })) (f .coded),
+      )
 
   rule7-is : ((i : ℕ) → i < 3 → Finite (getD (d .orig) i 0) × Finite (getD (d .inc) i 0))
       → ((d .datatype ≡ 6) ⊎ CodingRange (getD (d .range) 0 0) (getD (d .range) 1 0)) → breaks7 d ≡ false
@@ -271,7 +272,9 @@ module _ (f : List ℕ) where
             not6 = rule6-is d (c .rule6);
             not7 = rule7-is d (c .rule7 .0) (c .rule7 .1);
             not8 = le-ltb brickLimit (bricksOf d) (c .rule8);
-            not9 = rule9-is (textLengthOf f) (c .rule9) } };
+            not9 = rule9-is (textLengthOf f) (c .rule9);
+          };
+        };
         long = c .rule10;
         not11 = rule11-is (c .rule10) (c .rule11);
         not12 = range-all _ _ _ _ _ (λ e l o k. c .rule12 e o l k);

@@ -1,8 +1,8 @@
 // Opening a lent cube: checks 1 to 13, and the record.
-use checks::check11;
+use checks::check_description;
 use checks::check2;
 use checks::check3;
-use checks::check_description;
+use checks::check11;
 use endian::u32_at;
 use record::Record;
 use record::Verdict;
@@ -121,11 +121,9 @@ pub fn open(file: &[u8]) -> Opened
 // A file is taken exactly when it is a cube by the format's rules and the build paper's limits.
 pub fn opens_exactly()
     ensures { λ _. ⌜ OpensExactly ⌝ }
-{
-}
+{}
 
 // The record of a taken opening passes check 14 with that file.
 pub fn record_passes()
     ensures { λ _. ⌜ RecordPasses ⌝ }
-{
-}
+{}

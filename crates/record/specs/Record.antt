@@ -88,10 +88,21 @@ unfoldable pub noRecord : Record
 noRecord = record {
   version = 0;
   description = record {
-    side = replicate 3 0; datatype = 0; range = replicate 2 0;
-    dataid = replicate 16 0; verid = replicate 16 0; previd = replicate 16 0; srctype = 0;
-    orig = replicate 3 0; inc = replicate 3 0; size = replicate 3 0;
-    hdim = 0; hfactor = 0; vdim = 0; vfactor = 0 };
+    side = replicate 3 0;
+    datatype = 0;
+    range = replicate 2 0;
+    dataid = replicate 16 0;
+    verid = replicate 16 0;
+    previd = replicate 16 0;
+    srctype = 0;
+    orig = replicate 3 0;
+    inc = replicate 3 0;
+    size = replicate 3 0;
+    hdim = 0;
+    hfactor = 0;
+    vdim = 0;
+    vfactor = 0;
+  };
   text = 0;
   grid = record { orig = replicate 3 zeroFloat; inc = replicate 3 zeroFloat; min = zeroFloat; max = zeroFloat };
   header = 0;

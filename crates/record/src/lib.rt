@@ -1,7 +1,7 @@
 // The record of an opened cube, the description in a header's bytes, and what a type number says.
+use endian::u8_at;
 use endian::u32_at;
 use endian::u64_at;
-use endian::u8_at;
 use floats::float_of;
 use geometry::Shape;
 use geometry::brick_bytes;
@@ -246,7 +246,12 @@ pub fn brick_bytes_in(d: Description) -> u64
     ensures { λ r. ⌜ (r ≡ brickBytesOf d) × (r ≤ 67108864) ⌝ }
 {
     let side = d.side;
-    brick_bytes(side[0] as u64, side[1] as u64, side[2] as u64, width_of(d.datatype) as u64)
+    brick_bytes(
+        side[0] as u64,
+        side[1] as u64,
+        side[2] as u64,
+        width_of(d.datatype) as u64,
+    )
 }
 
 // The record of a cube with this description, a text of text bytes and length bytes in all.

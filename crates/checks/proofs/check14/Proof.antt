@@ -9,7 +9,7 @@ record-fits-requires c κs = search needs
 
 returns : tie.Need-returns
 unfolding breaks14
-returns c = rw (c  .record-fits .ensures)
+returns c = rw (c .record-fits .ensures)
 
 pub check14-spec : {M : Type 1} → statement M
 check14-spec = tie.close (tie.spec record-fits-requires returns)

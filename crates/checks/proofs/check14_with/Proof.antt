@@ -9,7 +9,7 @@ record-fits-requires c κs = search needs
 
 returns : tie.Need-returns
 unfolding breaks14With
-returns c = rw (c .before  .record-fits .ensures)
+returns c = rw (c .before .record-fits .ensures)
 
 pub check14-with-spec : {M : Type 1} → statement M
 check14-with-spec = tie.close (tie.spec record-fits-requires returns)

@@ -64,7 +64,7 @@ returns-2 c =
     let b = c .before .before .before .before .before .before .brick-bytes-in .ensures .0 in
     c .refuse-at2 .ensures
     ∙ found-13 _ _ _ (outside-is _ _ e _ b _ (c .before .before .before .before .lowest-out-of-range .ensures)) (rw (in-bricks _ _ e) at (c .before .before .before .if1 .left))
-      (overlapping-is _ _ e _ b _ (c .before .before .lowest-overlap .ensures)) (rw (in-bricks _ _ e) at (c .before .if2 .taken))
+    (overlapping-is _ _ e _ b _ (c .before .before .lowest-overlap .ensures)) (rw (in-bricks _ _ e) at (c .before .if2 .taken))
 
 returns-3 : tie.Need-returns-3
 returns-3 c =
