@@ -3,3 +3,6 @@ pub mod Loads
 pub mod Search
 pub mod Digits
 pub mod Bytes
+pub mod Cats
+pub mod Puts
+pub mod Parts

@@ -5,6 +5,8 @@ use lib.Dec.{ltb}
 use Rattle.record.specs.declared.Refusal.{Refusal}
 use Rattle.record.specs.declared.Verdict.{Verdict}
 use Rattle.record.specs.declared.Verdict.the-variants.{Taken, Refused}
+use Rattle.record.specs.declared.Done.{Done}
+use Rattle.record.specs.declared.Done.the-variants as done
 
 -- the number of the table, 0 where the call is taken
 abbrev pub numberOf : Verdict → ℕ
@@ -36,3 +38,17 @@ andThen (Refused x) later = Refused x
 -- refused by check n where the lowest such entry, e, is one of m; else the later checks
 abbrev pub unlessFound : ℕ → ℕ → ℕ → Verdict → Verdict
 unlessFound n e m later = cond (ltb e m) (refusedAt n e) later
+
+-- the answer of a call that moves n bytes or floats where it is taken
+abbrev pub doneOf : Verdict → ℕ → Done
+doneOf Taken n = done.Taken n
+doneOf (Refused x) n = done.Refused x
+
+-- an answer's verdict, and how much was moved: nothing where it is refused
+abbrev pub verdictOf : Done → Verdict
+verdictOf (done.Taken n) = Taken
+verdictOf (done.Refused x) = Refused x
+
+abbrev pub movedOf : Done → ℕ
+movedOf (done.Taken n) = n
+movedOf (done.Refused x) = 0

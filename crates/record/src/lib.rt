@@ -30,6 +30,12 @@ pub enum Verdict {
     Refused(Refusal),
 }
 
+// What a call answers that moves bytes or floats: how many it moved, or its refusal.
+pub enum Done {
+    Taken(u64),
+    Refused(Refusal),
+}
+
 // What a type number says: the item's width in bytes and its decode rule, or a refusal.
 pub enum Coding {
     // Signed integers from -half to half - 1, scaled to the coding range.

@@ -1,0 +1,3 @@
+-- Laws of the listing.
+pub mod Taken
+pub mod Lines

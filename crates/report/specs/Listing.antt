@@ -1,0 +1,96 @@
+-- What the listing says of a file, in bytes of text.
+use mathlib.Core.Bool.{cond}
+use mathlib.Core.List.{List, [], _∷_, _++_}
+use Prim.Native.Nat.{ℕ}
+use lib.Dec.{ltb}
+use lib.ListN.{getD, length}
+use Rattle.endian.specs.Loops.{cat}
+use Rattle.text.specs.Text.{bytesOf, decimal, signedDecimal}
+use Rattle.record.specs.Types.{codingOf}
+use Rattle.record.specs.declared.Coding.{Coding}
+use Rattle.record.specs.declared.Coding.the-variants.{Scaled, Float32, NoType}
+use Rattle.record.specs.declared.Record.{Record}
+use Rattle.record.specs.declared.Refusal.{Refusal}
+use Rattle.record.specs.declared.Verdict.{Verdict}
+use Rattle.record.specs.declared.Verdict.the-variants.{Taken, Refused}
+use Rattle.table.specs.declared.Kind.{Kind}
+use Rattle.table.specs.declared.Kind.the-variants.{Missing, Constant, Stored}
+use Rattle.opening.specs.Opening.{kindsOf, openVerdict, recordIn}
+
+-- a space, and the end of a line
+abbrev pub space : List ℕ
+space = 32 ∷ []
+
+abbrev pub newline : List ℕ
+newline = 10 ∷ []
+
+-- a word and a number
+abbrev pub numbered : List ℕ → ℕ → List ℕ
+numbered word n = word ++ decimal n
+
+-- a line of a word and a number
+abbrev pub numberLine : List ℕ → ℕ → List ℕ
+numberLine word n = numbered word n ++ newline
+
+-- a line of a word and three numbers
+abbrev pub threeLine : List ℕ → List ℕ → List ℕ
+threeLine word ns = numbered word (getD ns 0 0) ++ numbered space (getD ns 1 0) ++ numberLine space (getD ns 2 0)
+
+-- `refused A B`: the number and the second number
+abbrev pub refusedLine : Refusal → List ℕ
+refusedLine x = numbered (bytesOf "refused ") (x .number) ++ numberLine space (x .entry)
+
+-- the seven lines of a record
+unfoldable pub headerLines : Record → List ℕ
+headerLines r =
+    numberLine (bytesOf "version ") (r .version)
+    ++ numberLine (bytesOf "type ") (r .description .datatype)
+    ++ threeLine (bytesOf "brick ") (r .description .side)
+    ++ threeLine (bytesOf "size ") (r .description .size)
+    ++ numberLine (bytesOf "levels ") (r .levels)
+    ++ numberLine (bytesOf "bricks ") (r .bricks)
+    ++ numberLine (bytesOf "header ") (r .header)
+
+-- a constant, from the unsigned number of its bytes: the signed storage value; for floats the 32 bits as an unsigned number
+abbrev pub constantBy : Coding → ℕ → List ℕ
+constantBy (Scaled w h) n = signedDecimal h n
+constantBy (Float32 w) n = decimal n
+constantBy (NoType x) n = decimal n
+
+unfoldable pub constantText : ℕ → ℕ → List ℕ
+constantText datatype n = constantBy (codingOf datatype) n
+
+-- what an entry names
+unfoldable pub kindText : ℕ → Kind → List ℕ
+kindText datatype Missing = bytesOf " missing"
+kindText datatype (Constant n) = bytesOf " constant " ++ constantText datatype n
+kindText datatype (Stored o) = numbered (bytesOf " stored ") o
+
+-- the line of entry e
+unfoldable pub entryLine : ℕ → ℕ → Kind → List ℕ
+entryLine datatype e k = numbered (bytesOf "entry ") e ++ kindText datatype k ++ newline
+
+-- what entry e of a file with record r names
+abbrev pub kindIn : List ℕ → Record → ℕ → Kind
+kindIn f r = kindsOf (r .description) (r .text) f
+
+-- the lines of the first n entries
+abbrev pub entryLines : List ℕ → Record → ℕ → List ℕ
+entryLines f r n = cat n (λ e. entryLine (r .description .datatype) e (kindIn f r e))
+
+-- the listing of a file that opened with record r
+unfoldable pub cubeLines : List ℕ → Record → List ℕ
+cubeLines f r = headerLines r ++ entryLines f r (r .bricks)
+
+-- the listing by opening's verdict
+abbrev pub linesBy : Verdict → List ℕ → List ℕ
+linesBy Taken lines = lines
+linesBy (Refused x) lines = refusedLine x
+
+-- the most bytes that a listed file has
+abbrev pub longest : ℕ
+longest = 65536
+
+-- the listing of a file
+unfoldable pub listingOf : List ℕ → List ℕ
+listingOf f = cond (ltb longest (length f)) (bytesOf "too long\n") (linesBy (openVerdict f) (cubeLines f (recordIn f)))
