@@ -1,0 +1,3 @@
+-- The definitions that the calls on an opened cube are stated in.
+pub mod Places
+pub mod Regions

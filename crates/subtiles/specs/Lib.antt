@@ -1,0 +1,5 @@
+-- The definitions that the contracts of subtiles cite.
+pub mod Subtiles
+pub mod Answers
+pub mod Runs
+pub mod Laws

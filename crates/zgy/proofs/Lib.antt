@@ -1,0 +1,4 @@
+-- The proofs of the statements of specs/Demands.antt.
+pub mod Steps
+pub mod Whole
+pub mod Witness

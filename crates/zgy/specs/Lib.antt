@@ -1,0 +1,3 @@
+-- The promises about opened cubes as a whole.
+pub mod Ledger
+pub mod Demands
