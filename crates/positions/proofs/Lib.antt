@@ -1,0 +1,2 @@
+-- Laws of position.
+pub mod Verdicts

@@ -1,0 +1,2 @@
+-- The definitions that the contracts of positions cite.
+pub mod Positions

@@ -1,0 +1,6 @@
+-- Laws of the strings of a text.
+pub mod Ends
+pub mod Turns
+pub mod Verdicts
+pub mod Fives
+pub mod Held
