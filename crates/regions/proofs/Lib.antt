@@ -1,0 +1,4 @@
+-- Laws that the proofs of regions cite.
+pub mod Finds
+pub mod Blocks
+pub mod Verdicts

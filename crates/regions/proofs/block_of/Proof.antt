@@ -1,0 +1,83 @@
+-- `regions::block_of` meets its contract. Assumes nothing.
+use native.Mathlib.Omega.{arith}
+use Rattle.regions.proofs.Blocks.{fit-of, sized-of, runs-of, first-small, block-made}
+use borrow.Author.Needs.{needs}
+use Rattle.regions.proofs.block_of.Statement.{statement}
+use Rattle.regions.proofs.block_of.Tie as tie
+
+steps-of-requires : tie.Need-steps-of-requires
+steps-of-requires c κs =
+    let s = c .before .before .before .before in
+    (sized-of (s .args .r) (s .args .g) (s .pre), rw (← fit-of (s .args .r) (s .args .g) (s .pre) .levels-is) (s .pre .leveled))
+
+array-read-bricks-along : tie.Need-array-read-bricks-along
+array-read-bricks-along c = search needs
+
+array-read-bricks-along-2 : tie.Need-array-read-bricks-along-2
+array-read-bricks-along-2 c = search needs
+
+array-read-bricks-along-3 : tie.Need-array-read-bricks-along-3
+array-read-bricks-along-3 c = search needs
+
+bricks-along-requires : tie.Need-bricks-along-requires
+bricks-along-requires c κs =
+    let s = c .before .before .before .before .before in
+    (omega (arith, sized-of (s .args .r) (s .args .g) (s .pre) .side0 .low), runs-of (s .args .r) (s .args .g) (s .pre) .inline .some)
+
+array-read-bricks-along-4 : tie.Need-array-read-bricks-along-4
+array-read-bricks-along-4 c = search needs
+
+array-read-bricks-along-5 : tie.Need-array-read-bricks-along-5
+array-read-bricks-along-5 c = search needs
+
+array-read-bricks-along-6 : tie.Need-array-read-bricks-along-6
+array-read-bricks-along-6 c = search needs
+
+bricks-along-requires-2 : tie.Need-bricks-along-requires-2
+bricks-along-requires-2 c κs =
+    let s = c .before .before .before .before .before .before in
+    (omega (arith, sized-of (s .args .r) (s .args .g) (s .pre) .side1 .low), runs-of (s .args .r) (s .args .g) (s .pre) .crossline .some)
+
+array-read-bricks-along-7 : tie.Need-array-read-bricks-along-7
+array-read-bricks-along-7 c = search needs
+
+array-read-bricks-along-8 : tie.Need-array-read-bricks-along-8
+array-read-bricks-along-8 c = search needs
+
+array-read-bricks-along-9 : tie.Need-array-read-bricks-along-9
+array-read-bricks-along-9 c = search needs
+
+bricks-along-requires-3 : tie.Need-bricks-along-requires-3
+bricks-along-requires-3 c κs =
+    let s = c .before .before .before .before .before .before .before in
+    (omega (arith, sized-of (s .args .r) (s .args .g) (s .pre) .side2 .low), runs-of (s .args .r) (s .args .g) (s .pre) .vertical .some)
+
+entry-at-requires : tie.Need-entry-at-requires
+entry-at-requires c κs =
+    let s = c .before .before .before .before .before .before .before .before in
+    first-small (s .args .r) (s .args .g) _ _ _ _ (c .before .before .before .steps-of .ensures) (c .before .before .bricks-along .ensures) (c .before .bricks-along2 .ensures) (c .bricks-along3 .ensures) (s .pre)
+
+returns : tie.Need-returns
+returns c =
+    let s = c .before .before .before .before .before .before .before .before .before in
+    block-made (s .args .r) (s .args .g) _ _ _ _ (c .before .before .before .before .steps-of .ensures) (c .before .before .before .bricks-along .ensures) (c .before .before .bricks-along2 .ensures) (c .before .bricks-along3 .ensures) _ (c .entry-at .ensures)
+
+pub block-of-spec : {M : Type 1} → statement M
+block-of-spec =
+    tie.close
+    (tie.spec
+    steps-of-requires
+    array-read-bricks-along
+    array-read-bricks-along-2
+    array-read-bricks-along-3
+    bricks-along-requires
+    array-read-bricks-along-4
+    array-read-bricks-along-5
+    array-read-bricks-along-6
+    bricks-along-requires-2
+    array-read-bricks-along-7
+    array-read-bricks-along-8
+    array-read-bricks-along-9
+    bricks-along-requires-3
+    entry-at-requires
+    returns)

@@ -1,0 +1,63 @@
+-- `regions::in_extent` meets its contract. Assumes nothing.
+use Rattle.cube.specs.Regions.{inExtent}
+use borrow.Author.Needs.{needs}
+use Rattle.regions.proofs.in_extent.Statement.{statement}
+use Rattle.regions.proofs.in_extent.Tie as tie
+
+array-read-run-inside : tie.Need-array-read-run-inside
+array-read-run-inside c = search needs
+
+array-read-run-inside-2 : tie.Need-array-read-run-inside-2
+array-read-run-inside-2 c = search needs
+
+array-read-run-inside-3 : tie.Need-array-read-run-inside-3
+array-read-run-inside-3 c = search needs
+
+run-inside-requires : tie.Need-run-inside-requires
+run-inside-requires c κs = search needs
+
+array-read-run-inside-4 : tie.Need-array-read-run-inside-4
+array-read-run-inside-4 c = search needs
+
+array-read-run-inside-5 : tie.Need-array-read-run-inside-5
+array-read-run-inside-5 c = search needs
+
+array-read-run-inside-6 : tie.Need-array-read-run-inside-6
+array-read-run-inside-6 c = search needs
+
+run-inside-requires-2 : tie.Need-run-inside-requires-2
+run-inside-requires-2 c κs = search needs
+
+array-read-run-inside-7 : tie.Need-array-read-run-inside-7
+array-read-run-inside-7 c = search needs
+
+array-read-run-inside-8 : tie.Need-array-read-run-inside-8
+array-read-run-inside-8 c = search needs
+
+array-read-run-inside-9 : tie.Need-array-read-run-inside-9
+array-read-run-inside-9 c = search needs
+
+run-inside-requires-3 : tie.Need-run-inside-requires-3
+run-inside-requires-3 c κs = search needs
+
+returns : tie.Need-returns
+unfolding inExtent
+returns c = rw (c .before .before .run-inside .ensures, c .before .run-inside2 .ensures, c .run-inside3 .ensures)
+
+pub in-extent-spec : {M : Type 1} → statement M
+in-extent-spec =
+    tie.close
+    (tie.spec
+    array-read-run-inside
+    array-read-run-inside-2
+    array-read-run-inside-3
+    run-inside-requires
+    array-read-run-inside-4
+    array-read-run-inside-5
+    array-read-run-inside-6
+    run-inside-requires-2
+    array-read-run-inside-7
+    array-read-run-inside-8
+    array-read-run-inside-9
+    run-inside-requires-3
+    returns)

@@ -1,0 +1,2 @@
+-- The definitions that the contracts of regions cite.
+pub mod Search

@@ -1,0 +1,333 @@
+// The checks of a call on a region, in the build paper's order: 14, 15, 16, 18, 12 over the touched entries, then 19 for writes.
+// All are done before a byte moves. Their cost grows with the bricks that the region touches, never with the cube.
+use checks::check14_with;
+use cube::Region;
+use geometry::ceil_div;
+use geometry::extent_at;
+use geometry::halved;
+use geometry::level_base;
+use geometry::table_start;
+use record::Description;
+use record::Record;
+use record::Verdict;
+use record::brick_bytes_in;
+use record::refuse;
+use record::refuse_at;
+use record::width_of;
+use table::Kind;
+use table::kind_at;
+ghost use mathlib.Core.Path.{_≡_};
+ghost use mathlib.Core.Bool.{true, _&&_};
+ghost use Prim.Native.Nat.{ℕ, _+_, _*_, _≤_, _<_};
+ghost use lib.Dec.{leb};
+ghost use lib.ListN.{length};
+ghost use Rattle.geometry.specs.Geometry.{ceilDiv, extent};
+ghost use Rattle.record.specs.Record.{levelsOf, Sized};
+ghost use Rattle.checks.specs.Fits.{recordFits};
+ghost use Rattle.table.specs.Entries.{outOfRange};
+ghost use Rattle.table.specs.declared.Kind.the-variants.{Stored};
+ghost use Rattle.cube.specs.Regions.{sizeOf, inExtent, touched, badRange, find, unlessIn, regionVerdict, rawVerdict, floatVerdict, writeVerdict};
+ghost use Rattle.regions.specs.Search.{foundOf, entriesOf, fails, Readable, rowFrom, layerFrom, entriesIn, LayerBelow, Below, alongOf, stepsOf, blockOf, Passed, rest};
+
+// What a search over entries finds: the first that fails, or none.
+enum Found {
+    At(u32),
+    Nothing,
+}
+
+// The brick table, with what an entry is judged by: where it starts and how many entries it has, where the headers end,
+// and the bytes of a brick and of an item.
+struct Entries {
+    start: u64,
+    count: u64,
+    header: u64,
+    brick: u64,
+    width: u32,
+}
+
+// The bricks that a run of samples touches in a direction.
+struct Along {
+    first: u64,
+    span: u64,
+}
+
+// How entries are numbered in a level: those before it, and how far apart neighbours crossline and vertical are.
+struct Steps {
+    base: u64,
+    row: u64,
+    layer: u64,
+}
+
+// The entries that a region touches: the first, how many in each direction, and how far apart neighbours are.
+struct Block {
+    first: u64,
+    inline: u64,
+    crossline: u64,
+    vertical: u64,
+    row: u64,
+    layer: u64,
+}
+
+// A number of 32 bits, for sums and products in 64.
+fn wide(x: u32) -> u64
+    ensures { λ r. ⌜ (r ≡ x) × (r < 4294967296) ⌝ }
+{
+    x as u64
+}
+
+// A run has a sample and lies in the level's extent. A start and a count of 32 bits each are added in 64.
+fn run_inside(start: u32, count: u32, size: u32, level: u32) -> bool
+    ensures { λ b. ⌜ b ≡ leb 1 count && leb (start + count) (extent size level) ⌝ }
+{
+    (1 <= count) & (wide(start) + wide(count) <= extent_at(wide(size), wide(level)))
+}
+
+// The region lies in its level.
+fn in_extent(r: Record, g: Region) -> bool
+    ensures { λ b. ⌜ b ≡ inExtent r g ⌝ }
+{
+    let d = r.description;
+    let size = d.size;
+    let start = g.start;
+    let count = g.count;
+    run_inside(start[0], count[0], size[0], g.level)
+        & run_inside(start[1], count[1], size[1], g.level)
+        & run_inside(start[2], count[2], size[2], g.level)
+}
+
+// The room that a by b by c samples take, of `item` each.
+fn room_for(a: u32, b: u32, c: u32, item: u32) -> u64
+    requires { ⌜ (a ≤ 1048576) × (b ≤ 1048576) × (c ≤ 1048576) × (item ≤ 4) ⌝ }
+    ensures { λ n. ⌜ n ≡ a * b * c * item ⌝ }
+{
+    wide(a) * wide(b) * wide(c) * wide(item)
+}
+
+// The room that a region takes.
+fn needed(r: Record, g: Region, item: u32) -> u64
+    requires { ⌜ Passed r g × (item ≤ 4) ⌝ }
+    ensures { λ n. ⌜ n ≡ sizeOf g * item ⌝ }
+{
+    let count = g.count;
+    room_for(count[0], count[1], count[2], item)
+}
+
+// The brick table of a record that passed check 14.
+fn entries_of(r: Record) -> Entries
+    requires { ⌜ recordFits r ≡ true ⌝ }
+    ensures { λ t. ⌜ (t ≡ entriesOf r) × Readable t (r .length) ⌝ }
+{
+    let d = r.description;
+    Entries {
+        start: table_start(wide(r.text), wide(r.alphas)),
+        count: wide(r.bricks),
+        header: r.header,
+        brick: brick_bytes_in(d),
+        width: width_of(d.datatype),
+    }
+}
+
+// The bricks of this side that a run touches.
+fn bricks_along(side: u32, start: u32, count: u32) -> Along
+    requires { ⌜ (1 ≤ side) × (1 ≤ count) ⌝ }
+    ensures { λ a. ⌜ a ≡ alongOf side start count ⌝ }
+{
+    let s = wide(side);
+    let first = wide(start) / s;
+    let last = (wide(start) + wide(count) - 1) / s;
+    Along {
+        first,
+        span: last - first + 1,
+    }
+}
+
+// The bricks of level 0 in a direction.
+fn bricks_over(size: u32, side: u32) -> u64
+    requires { ⌜ 1 ≤ side ⌝ }
+    ensures { λ n. ⌜ n ≡ ceilDiv size side ⌝ }
+{
+    ceil_div(wide(size), wide(side))
+}
+
+// How the entries of a level are numbered.
+fn steps_of(d: Description, level: u32) -> Steps
+    requires { ⌜ Sized d × (level < levelsOf d) ⌝ }
+    ensures { λ s. ⌜ s ≡ stepsOf d level ⌝ }
+{
+    let size = d.size;
+    let side = d.side;
+    let l = wide(level);
+    let a = bricks_over(size[0], side[0]);
+    let b = bricks_over(size[1], side[1]);
+    let c = bricks_over(size[2], side[2]);
+    let base = level_base(a, b, c, l);
+    let row = halved(a, l);
+    Steps {
+        base,
+        row,
+        layer: row * halved(b, l),
+    }
+}
+
+// The entry of brick (x, y, z) of a level.
+fn entry_at(s: Steps, x: u64, y: u64, z: u64) -> u64
+    requires { ⌜ s .base + z * s .layer + y * s .row + x ≤ 18446744073709551615 ⌝ }
+    ensures { λ e. ⌜ e ≡ s .base + z * s .layer + y * s .row + x ⌝ }
+{
+    s.base + z * s.layer + y * s.row + x
+}
+
+// The entries that a region touches.
+fn block_of(r: Record, g: Region) -> Block
+    requires { ⌜ Passed r g ⌝ }
+    ensures { λ b. ⌜ b ≡ blockOf r g ⌝ }
+{
+    let d = r.description;
+    let side = d.side;
+    let start = g.start;
+    let count = g.count;
+    let s = steps_of(d, g.level);
+    let x = bricks_along(side[0], start[0], count[0]);
+    let y = bricks_along(side[1], start[1], count[1]);
+    let z = bricks_along(side[2], start[2], count[2]);
+    Block {
+        first: entry_at(s, x.first, y.first, z.first),
+        inline: x.span,
+        crossline: y.span,
+        vertical: z.span,
+        row: s.row,
+        layer: s.layer,
+    }
+}
+
+// Check 12 of a stored brick, in a file that is `end` bytes long.
+fn outside(offset: u64, header: u64, brick: u64, end: u64) -> bool
+    requires { ⌜ offset + brick ≤ 18446744073709551615 ⌝ }
+    ensures { λ b. ⌜ b ≡ outOfRange header brick end (Stored offset) ⌝ }
+{
+    !((header <= offset) & (offset + brick <= end))
+}
+
+// An entry fails check 19, or check 12.
+fn entry_fails(file: &[u8], t: Entries, entry: u64, stored: bool) -> bool
+    requires { ⌜ Readable t (length (now file)) × (entry < t .count) ⌝ }
+    ensures { λ b. ⌜ b ≡ fails stored t (now (file .entry)) entry ⌝ }
+{
+    let kind = kind_at(file, t.start as usize, entry as usize, t.width);
+    match kind {
+        Kind::Missing => stored,
+        Kind::Constant(_) => stored,
+        Kind::Stored(offset) => !stored & outside(offset, t.header, t.brick, file.len() as u64),
+    }
+}
+
+// The first entry that fails, of a row along inline from this entry on.
+fn search_row(file: &[u8], t: Entries, from: u64, count: u64, stored: bool) -> Found
+    requires { ⌜ Readable t (length (now file)) × (from + count ≤ t .count) ⌝ }
+    ensures { λ found. ⌜ found ≡ foundOf (find (fails stored t (now (file .entry))) (rowFrom from count)) ⌝ }
+{
+    let mut x = 0;
+    while x < count {
+        if entry_fails(file, t, from + x, stored) {
+            return Found::At((from + x) as u32);
+        }
+        x += 1;
+    }
+    Found::Nothing
+}
+
+// The first that fails of the rows of a layer, one after the other crossline.
+fn search_layer(file: &[u8], t: Entries, b: Block, from: u64, stored: bool) -> Found
+    requires { ⌜ Readable t (length (now file)) × (from ≤ t .count) × LayerBelow b from (t .count) ⌝ }
+    ensures { λ found. ⌜ found ≡ foundOf (find (fails stored t (now (file .entry))) (layerFrom b from)) ⌝ }
+{
+    let mut y = 0;
+    while y < b.crossline {
+        let found = search_row(file, t, from + y * b.row, b.inline, stored);
+        if let Found::At(entry) = found {
+            return Found::At(entry);
+        }
+        y += 1;
+    }
+    Found::Nothing
+}
+
+// The first that fails of the layers of a block, one after the other vertical.
+fn search(file: &[u8], t: Entries, b: Block, stored: bool) -> Found
+    requires { ⌜ Readable t (length (now file)) × Below b (t .count) ⌝ }
+    ensures { λ found. ⌜ found ≡ foundOf (find (fails stored t (now (file .entry))) (entriesIn b)) ⌝ }
+{
+    let mut z = 0;
+    while z < b.vertical {
+        let found = search_layer(file, t, b, b.first + z * b.layer, stored);
+        if let Found::At(entry) = found {
+            return Found::At(entry);
+        }
+        z += 1;
+    }
+    Found::Nothing
+}
+
+// Checks 12 and, for a write, 19 over the touched entries.
+fn check_entries(file: &[u8], r: Record, g: Region, write: bool) -> Verdict
+    requires { ⌜ Passed r g × (r .length ≡ length (now file)) ⌝ }
+    ensures { λ v. ⌜ v ≡ unlessIn 12 (find (badRange r (now (file .entry))) (touched r g)) (rest write r (now (file .entry)) g) ⌝ }
+{
+    let t = entries_of(r);
+    let b = block_of(r, g);
+    let bad = search(file, t, b, false);
+    if let Found::At(entry) = bad {
+        return refuse_at(12, entry);
+    }
+    if !write {
+        return Verdict::Taken;
+    }
+    let unstored = search(file, t, b, true);
+    match unstored {
+        Found::At(entry) => refuse_at(19, entry),
+        Found::Nothing => Verdict::Taken,
+    }
+}
+
+// The checks of a call on a region. A sample takes `item` of what room counts, bytes or floats.
+fn check_region(file: &[u8], r: Record, g: Region, room: usize, item: u32, write: bool) -> Verdict
+    requires { ⌜ item ≤ 4 ⌝ }
+    ensures { λ v. ⌜ v ≡ regionVerdict r (now (file .entry)) g room (sizeOf g * item) (rest write r (now (file .entry)) g) ⌝ }
+{
+    if check14_with(r, file.len() as u64) {
+        return refuse(14);
+    }
+    if r.levels <= g.level {
+        return refuse(15);
+    }
+    if !in_extent(r, g) {
+        return refuse(16);
+    }
+    if (room as u64) < needed(r, g, item) {
+        return refuse(18);
+    }
+    check_entries(file, r, g, write)
+}
+
+// The checks of a raw read into a buffer of room bytes.
+pub fn raw_verdict(file: &[u8], r: Record, g: Region, room: usize) -> Verdict
+    ensures { λ v. ⌜ v ≡ rawVerdict r (now (file .entry)) g room ⌝ }
+{
+    let d = r.description;
+    check_region(file, r, g, room, width_of(d.datatype), false)
+}
+
+// The checks of a float read into a buffer of room floats.
+pub fn float_verdict(file: &[u8], r: Record, g: Region, room: usize) -> Verdict
+    ensures { λ v. ⌜ v ≡ floatVerdict r (now (file .entry)) g room ⌝ }
+{
+    check_region(file, r, g, room, 1, false)
+}
+
+// The checks of a write of room lent bytes.
+pub fn write_verdict(file: &[u8], r: Record, g: Region, room: usize) -> Verdict
+    ensures { λ v. ⌜ v ≡ writeVerdict r (now (file .entry)) g room ⌝ }
+{
+    let d = r.description;
+    check_region(file, r, g, room, width_of(d.datatype), true)
+}
