@@ -1,9 +1,10 @@
 #!/usr/bin/env python3
-"""A second reader and maker of ZGY cubes, written from the format's and the build's papers alone.
+"""A second reader and maker of ZGY cubes, by the format's and the build's papers.
 
-It shares nothing with the crates: what it reads and makes is what they are compared with. The standard library is enough.
+It shares nothing with the crates: what they read and write is compared with what it reads and writes. The standard
+library is enough.
 
-    python3 tools/second_reader.py listings     writes the files that the listing programs are run on, and what they must write
+    python3 tools/second_reader.py listings     writes what the listing programs are run on, and what they must write
 """
 
 import math
@@ -19,7 +20,6 @@ ROOT = Path(__file__).resolve().parent.parent
 
 MAGIC = b"VBS\0"
 MAGIC_AT, VERSION_AT, INFO_AT, TEXT_AT = 0, 4, 9, 346
-INFO_BYTES = 337
 HISTOGRAM_BYTES = 2064
 ENTRY_BYTES = 8
 
@@ -295,6 +295,7 @@ class Cube:
 
 
 def finite(numbers):
+    """None of them is infinite or a NaN."""
     return all(math.isfinite(n) for n in numbers)
 
 
@@ -321,7 +322,7 @@ def check_fields(file):
 
 
 def check_sections(file, counts, text_length):
-    """Checks 8 to 11: the sections that the fields give. The text."""
+    """Checks 8 to 11: the sections that the fields give. Answers the text."""
     if brick_total(counts) > 16384:
         raise Refusal(8)
     if not 5 <= text_length <= 65536:
@@ -378,6 +379,7 @@ def constant_shown(bits, type_number):
 
 
 def brick_line(number, brick, type_number):
+    """The line of an entry."""
     if brick.kind == "missing":
         return f"entry {number} missing"
     if brick.kind == "constant":
@@ -387,7 +389,7 @@ def brick_line(number, brick, type_number):
 
 def cube_lines(cube):
     """The seven header lines, and a line for each entry."""
-    return [
+    header_lines = [
         f"version {cube.version}",
         f"type {cube.type}",
         "brick {} {} {}".format(*cube.side),
@@ -395,7 +397,8 @@ def cube_lines(cube):
         f"levels {len(cube.counts)}",
         f"bricks {len(cube.bricks)}",
         f"header {cube.header}",
-    ] + [brick_line(number, brick, cube.type) for number, brick in enumerate(cube.bricks)]
+    ]
+    return header_lines + [brick_line(number, brick, cube.type) for number, brick in enumerate(cube.bricks)]
 
 
 def listing(file):
@@ -438,7 +441,7 @@ def seven_entries(type_number, entries, offsets):
     """A cube of seven entries: those given, then one stored brick for each offset from H."""
     description = replace(SEVEN, type=type_number)
     header = description.header_end(STRINGS)
-    bricks = {header + at: bytes((i % 251 for i in range(description.brick_bytes))) for at in offsets}
+    bricks = {header + at: bytes(i % 251 for i in range(description.brick_bytes)) for at in offsets}
     return build(description, STRINGS, entries + list(bricks), bricks)
 
 
@@ -514,10 +517,10 @@ def refused_by_entries():
     header = SEVEN.header_end(NO_STRINGS)
     brick = bytes(SEVEN.brick_bytes)
 
-    def cube(*entries, length=4):
-        """Seven entries, the last of them missing, with room for this many bricks."""
+    def cube(*entries):
+        """Seven entries, those not given missing, with room for four bricks."""
         missing = [MISSING] * (7 - len(entries))
-        return build(SEVEN, NO_STRINGS, list(entries) + missing, {header: brick * length})
+        return build(SEVEN, NO_STRINGS, list(entries) + missing, {header: brick * 4})
 
     end = header + 4 * len(brick)
     return {

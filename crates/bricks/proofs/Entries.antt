@@ -1,5 +1,5 @@
 -- The entry of a record that passes check 14: where it stands, its verdict, and what its kind owes. Assumes nothing.
-use mathlib.Core.Bool.{Bool, true, false, not, cond, _&&_, false≢true}
+use mathlib.Core.Bool.{Bool, true, false, not, cond, _&&_}
 use mathlib.Core.List.{List}
 use mathlib.Core.Path.{_≡_, refl, sym, ap, _∙_}
 use Prim.Native.Nat.{ℕ, _+_, _-_, _*_, _%_, _^_, _≤_, _<_}
@@ -12,16 +12,15 @@ use Rattle.endian.specs.Bytes.{le}
 use Rattle.endian.proofs.Search.{first-at, first-before}
 use Rattle.record.specs.Answers.{refused, refusedAt}
 use Rattle.record.specs.Types.{codingOf, itemWidth, widthOf}
-use Rattle.record.specs.Record.{bricksOf, brickBytesOf, tableOf, headerOf}
+use Rattle.record.specs.Record.{brickBytesOf, tableOf, headerOf}
 use Rattle.record.specs.declared.Coding.{Coding}
 use Rattle.record.specs.declared.Record.{Record}
 use Rattle.record.specs.declared.Refusal.{Refusal}
 use Rattle.record.specs.declared.Verdict.{Verdict}
 use Rattle.record.specs.declared.Verdict.the-variants.{Taken, Refused}
-use Rattle.checks.specs.Fits.{recordFits, breaks14, breaks14With}
+use Rattle.checks.specs.Fits.{breaks14, breaks14With}
 use Rattle.checks.proofs.Described.{both, not-false}
-use Rattle.checks.proofs.Records.{Fit, fits-all, fits-is, with-fit}
-use Rattle.table.specs.declared.Kind.{Kind}
+use Rattle.checks.proofs.Records.{Fit, fits-is, with-fit}
 use Rattle.table.specs.declared.Kind.the-variants.{Missing, Constant, Stored}
 use Rattle.table.specs.Entries.{kindOf, kindAt, outOfRange, lowestOutOfRange}
 use Rattle.table.proofs.Words.{words, kind-missing, kind-zero, kind-constant, kind-offset}
@@ -86,10 +85,6 @@ module _ (r : Record) (fit : Fit r) where
 pub without-file : (r : Record) → Fit r → breaks14 r ≡ false
 unfolding breaks14
 without-file r fit = ap not (fits-is r fit)
-
-pub alone-fit : (r : Record) → breaks14 r ≡ false → Fit r
-unfolding breaks14
-alone-fit r e = fits-all r (not-false (recordFits r) e)
 
 -- ---- check 12 of one entry, by a search over a table of that entry alone
 entry-alone : (w : ℕ) (f : List ℕ) (t e : ℕ) → kindAt w f (t + 8 * e) 0 ≡ kindAt w f t e

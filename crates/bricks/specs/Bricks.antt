@@ -3,7 +3,6 @@ use mathlib.Core.Bool.{Bool, not, cond}
 use mathlib.Core.List.{List, []}
 use Prim.Native.Nat.{ℕ, _%_}
 use lib.Dec.{eqb, leb, ltb}
-use lib.Ieee.{Float}
 use lib.ListN.{getD, length, take}
 use Rattle.endian.specs.Loops.{first}
 use Rattle.endian.specs.Bytes.{peek, lows}

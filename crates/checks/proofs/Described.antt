@@ -2,8 +2,8 @@
 use mathlib.Core.Bool.{Bool, true, false, not, cond, _&&_, _||_, false≢true}
 use mathlib.Core.List.{List}
 use mathlib.Core.Logic.{_⊎_, inl, inr, ⊎-elim}
-use mathlib.Core.Path.{_≡_, refl, sym, _∙_}
-use Prim.Native.Nat.{ℕ, _≤_, _<_}
+use mathlib.Core.Path.{_≡_, refl, sym}
+use Prim.Native.Nat.{ℕ, zero, suc, _≤_, _<_}
 use native.Mathlib.Nat.{mul-pos}
 use native.Mathlib.Omega.{arith}
 use lib.Dec.{eqb, leb}
@@ -15,7 +15,7 @@ use Rattle.record.specs.Record.{bricksOf, brickBytesOf, Between, Sized}
 use Rattle.record.specs.declared.Coding.{Coding}
 use Rattle.record.specs.declared.Description.{Description}
 use Rattle.record.specs.declared.Verdict.{Verdict}
-use Rattle.record.specs.declared.Verdict.the-variants.{Taken, Refused}
+use Rattle.record.specs.declared.Verdict.the-variants.{Taken}
 use Rattle.checks.specs.Checks.{all3, sideOk, sizeOk, brickLimit, breaks4, breaks5, breaks6, breaks7, breaks8, breaks9, described}
 
 -- one check peeled off: it did not apply, and the later ones took the call
@@ -41,6 +41,13 @@ all3-each p l e =
     let x = both (p (getD l 0 0) && p (getD l 1 0)) (p (getD l 2 0)) e in
     let y = both (p (getD l 0 0)) (p (getD l 1 0)) (x .0) in
     (y .0, y .1, x .1)
+
+-- what holds of 0, 1 and 2 holds of each direction
+pub each-of : (P : ℕ → Type 0) → P 0 → P 1 → P 2 → (i : ℕ) → i < 3 → P i
+each-of P a b c zero h = a
+each-of P a b c (suc zero) h = b
+each-of P a b c (suc (suc zero)) h = c
+each-of P a b c (suc (suc (suc i))) h = absurd (omega arith)
 
 -- what holds of 4, 8, 16, 32 and 64 holds of an allowed side
 pub side-each : (P : ℕ → Type 0) → P 4 → P 8 → P 16 → P 32 → P 64 → (n : ℕ) → sideOk n ≡ true → P n

@@ -1,12 +1,12 @@
 -- Check 14 as facts: what a record owes that passes it, and that the record which follows from a description passes it. Assumes nothing.
-use mathlib.Core.Bool.{Bool, true, false, not, cond, _&&_, _||_, false≢true}
+use mathlib.Core.Bool.{Bool, true, false, not, cond, false≢true}
 use mathlib.Core.List.{List}
 use mathlib.Core.Logic.{_⊎_, inl, inr, ⊎-elim}
-use mathlib.Core.Path.{_≡_, refl, sym, ap, _∙_}
+use mathlib.Core.Path.{_≡_, refl, sym, _∙_}
 use Prim.Native.Nat.{ℕ, _≤_, _<_}
-use lib.Dec.{eqb, leb}
+use lib.Dec.{eqb}
 use lib.ListN.{getD}
-use lib.Ieee.{Float, nan, binary32, ofBits}
+use lib.Ieee.{binary32, ofBits}
 use borrow.Author.Tests.{eqb-true, eq-eqb, leb-true, le-leb}
 use Rattle.floats.specs.Rules.{finiteBits, rangeOk, sameBits}
 use Rattle.floats.proofs.Patterns.{same-of, same-zero, range-finite}
@@ -16,8 +16,8 @@ use Rattle.record.specs.declared.Description.{Description}
 use Rattle.record.specs.declared.Record.{Record}
 use Rattle.record.specs.declared.Verdict.{Verdict}
 use Rattle.record.specs.declared.Verdict.the-variants.{Taken, Refused}
-use Rattle.checks.specs.Checks.{all3, breaks3, breaks7, described}
-use Rattle.checks.specs.Fits.{same3, gridFits, numbersFit, recordFits, breaks14With}
+use Rattle.checks.specs.Checks.{all3, breaks3, breaks7}
+use Rattle.checks.specs.Fits.{same3, gridFits, numbersFit, recordFits, breaks14, breaks14With}
 use Rattle.checks.proofs.Described.{both, either, not-false, all3-each, Described, described-all, described-is}
 
 -- a record that passes check 14
@@ -123,3 +123,8 @@ unfolding breaks14With
 with-fit r n e =
     let a = both _ _ (not-false _ e) in
     (fits-all r (a .0), eqb-true _ _ (a .1))
+
+-- a record that passes check 14 where no file is lent
+pub alone-fit : (r : Record) → breaks14 r ≡ false → Fit r
+unfolding breaks14
+alone-fit r e = fits-all r (not-false (recordFits r) e)

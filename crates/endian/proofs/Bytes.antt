@@ -30,7 +30,7 @@ le-drop (suc k) f a b = ap₂ (λ (x y : ℕ). x + 256 * y) (getD-drop a f b 0) 
 pub le-peek : (k : ℕ) (f : List ℕ) (a : ℕ) → le k (peek f a k) 0 ≡ le k f a
 le-peek k f a = le-same k (peek f a k) (drop a f) 0 (λ i lo hi. getD-take k (drop a f) i 0 (omega arith)) ∙ le-drop k f a 0 ∙ ap (le k f) (add-zero a)
 
-le-cons : (k x : ℕ) (l : List ℕ) (b : ℕ) → le k (x ∷ l) (suc b) ≡ le k l b
+pub le-cons : (k x : ℕ) (l : List ℕ) (b : ℕ) → le k (x ∷ l) (suc b) ≡ le k l b
 unfolding le
 le-cons zero x l b = refl
 le-cons (suc k) x l b = ap (λ (y : ℕ). getD l b 0 + 256 * y) (rw (add-one (suc b), add-one b) (le-cons k x l (suc b)))

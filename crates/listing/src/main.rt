@@ -2,8 +2,8 @@
 use libc::STDIN_FILENO;
 use libc::STDOUT_FILENO;
 
-// A byte more than a listed file has, so that a longer one shows. A listed file has fewer than 8,000
-// entries, and a line at most 31 bytes, so every listing fits.
+// The first array takes a byte more than a listed file has, so that a longer one shows. A listed file
+// has fewer than 8,000 entries and a line at most 31 bytes, so the second takes every listing.
 fn main() {
     let mut file = [0u8; 65537];
     let mut out = [0u8; 262144];

@@ -1,12 +1,12 @@
 -- Opening's answer from the verdicts of its parts. Assumes nothing.
 use mathlib.Core.Bool.{true, false}
 use mathlib.Core.List.{List}
-use mathlib.Core.Path.{_≡_, ap, _∙_}
+use mathlib.Core.Path.{_≡_, _∙_}
 use Prim.Native.Nat.{ℕ, _+_, _-_, _≤_, _<_}
 use native.Mathlib.Omega.{arith}
 use lib.ListN.{length, take, drop}
 use borrow.Author.Tests.{lt-ltb, le-ltb}
-use Rattle.record.specs.Answers.{refused, andThen}
+use Rattle.record.specs.Answers.{refused}
 use Rattle.record.specs.Header.{versionOf, descriptionOf, textLengthOf, textOf}
 use Rattle.record.specs.Record.{headerOf, recordOf, noRecord}
 use Rattle.record.specs.declared.Description.{Description}

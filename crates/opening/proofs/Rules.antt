@@ -3,16 +3,16 @@ use mathlib.Core.Bool.{Bool, true, false, not, cond, _&&_, _||_, false≢true}
 use mathlib.Core.List.{List, [], _∷_}
 use mathlib.Core.Logic.{_⊎_, inl, inr, ⊎-elim}
 use mathlib.Core.Path.{_≡_, refl, sym, subst, ap, _∙_}
-use Prim.Native.Nat.{ℕ, zero, suc, _+_, _-_, _*_, _≤_, _<_}
+use Prim.Native.Nat.{ℕ, zero, suc, _+_, _-_, _≤_, _<_}
 use native.Mathlib.Omega.{arith}
-use lib.Dec.{T, eqb, leb, ltb}
+use lib.Dec.{T, eqb, ltb}
 use lib.Ieee.{binary32, ofBits, lt}
-use lib.ListN.{getD, length, take, drop, length-take, length-drop}
+use lib.ListN.{getD, length, take, length-take, length-drop}
 use lib.Seq.{getD-take}
-use borrow.Author.Tests.{eqb-true, eq-eqb, ne-eqb, leb-true, le-leb, ltb-true, ltb-false, le-ltb}
+use borrow.Author.Tests.{eqb-true, eq-eqb, le-leb, ltb-false, le-ltb}
 use Rattle.endian.specs.Bytes.{Bytes, le, peek}
 use Rattle.endian.proofs.Bytes.{le-bound}
-use Rattle.floats.specs.Rules.{finite, finiteBits, rangeOk}
+use Rattle.floats.specs.Rules.{finiteBits, rangeOk}
 use Rattle.floats.proofs.Patterns.{range-finite}
 use Rattle.record.specs.Answers.{refused, refusedAt, andThen, unlessFound}
 use Rattle.record.specs.Types.{codingOf, noType}
@@ -22,11 +22,9 @@ use Rattle.record.specs.declared.Description.{Description}
 use Rattle.record.specs.declared.Coding.{Coding}
 use Rattle.record.specs.declared.Verdict.{Verdict}
 use Rattle.record.specs.declared.Verdict.the-variants.{Taken, Refused}
-use Rattle.checks.specs.Checks.{all3, sideOk, sizeOk, brickLimit, zeros, breaks2, breaks3, breaks4, breaks5, breaks6, breaks7, breaks8, breaks9, breaks11, described}
-use Rattle.checks.proofs.Described.{passed, not-false, both, either, all3-each, side-each, size-range, Described, described-all, described-is, described-few, described-text}
-use Rattle.checks.proofs.Records.{Words, Finites, finites, Fit, record-fits, fit-with}
-use Rattle.table.specs.Entries.{lowestOutOfRange, lowestOverlap}
-use Rattle.table.specs.declared.Kind.the-variants.{Stored}
+use Rattle.checks.specs.Checks.{all3, sideOk, sizeOk, brickLimit, zeros, breaks2, breaks3, breaks4, breaks5, breaks6, breaks7, breaks8, breaks9, breaks11}
+use Rattle.checks.proofs.Described.{passed, not-false, both, either, all3-each, each-of, side-each, size-range, described-is}
+use Rattle.checks.proofs.Records.{Words, finites, record-fits, fit-with}
 use Rattle.table.proofs.Range.{range-none, range-all, range-le}
 use Rattle.table.proofs.Overlaps.{overlap-none, overlap-all, overlap-le}
 use Rattle.opening.specs.Opening.{kindsOf, entriesVerdict, bodyVerdict, headerVerdict, openVerdict, recordIn}
@@ -91,12 +89,6 @@ from-truth false t = absurd t
 -- what holds of each direction holds of all three
 all3-of : (p : ℕ → Bool) (l : List ℕ) → ((i : ℕ) → i < 3 → p (getD l i 0) ≡ true) → all3 p l ≡ true
 all3-of p l h = simp (h 0 (omega arith), h 1 (omega arith), h 2 (omega arith))
-
-each-of : (P : ℕ → Type 0) → P 0 → P 1 → P 2 → (i : ℕ) → i < 3 → P i
-each-of P a b c zero h = a
-each-of P a b c (suc zero) h = b
-each-of P a b c (suc (suc zero)) h = c
-each-of P a b c (suc (suc (suc i))) h = absurd (omega arith)
 
 four : (f : List ℕ) → 4 ≤ length f → take 4 f ≡ (getD f 0 0 ∷ getD f 1 0 ∷ getD f 2 0 ∷ getD f 3 0 ∷ [])
 four [] h = absurd (omega arith)

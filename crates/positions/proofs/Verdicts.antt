@@ -1,10 +1,10 @@
 -- The verdicts of position, and that the grid of a record that passes check 14 is finite. Assumes nothing.
-use mathlib.Core.Bool.{Bool, true, false, _&&_}
+use mathlib.Core.Bool.{true, false, _&&_}
 use mathlib.Core.List.{List}
-use mathlib.Core.Path.{_≡_, refl, sym, ap, _∙_}
-use Prim.Native.Nat.{ℕ, zero, suc, _≤_, _<_}
+use mathlib.Core.Path.{_≡_, sym, _∙_}
+use Prim.Native.Nat.{ℕ, _≤_, _<_}
 use native.Mathlib.Omega.{arith}
-use lib.Dec.{T, leb}
+use lib.Dec.{T}
 use lib.Ieee.{Float, nan}
 use lib.ListN.{getD}
 use borrow.Author.Tests.{le-leb, lt-leb}
@@ -12,24 +12,16 @@ use Rattle.floats.specs.Rules.{finite, finiteBits, sameBits}
 use Rattle.floats.specs.Position.{positionOf, Near}
 use Rattle.floats.proofs.Patterns.{same-float, finite-fits}
 use Rattle.record.specs.Answers.{refused}
-use Rattle.record.specs.Record.{sizeOf, Sized}
+use Rattle.record.specs.Record.{sizeOf}
 use Rattle.record.specs.declared.Record.{Record}
-use Rattle.record.specs.declared.Verdict.{Verdict}
 use Rattle.record.specs.declared.Verdict.the-variants.{Taken, Refused}
 use Rattle.checks.specs.Checks.{all3}
-use Rattle.checks.specs.Fits.{same3, gridFits, recordFits, breaks14}
-use Rattle.checks.proofs.Described.{both, not-false, all3-each, described-sized}
-use Rattle.checks.proofs.Records.{Fit, fits-all, finites}
+use Rattle.checks.specs.Fits.{same3, gridFits, breaks14}
+use Rattle.checks.proofs.Described.{both, all3-each, each-of, described-sized}
+use Rattle.checks.proofs.Records.{alone-fit, Fit, finites}
 use Rattle.positions.specs.declared.Located.{Located}
 use Rattle.positions.specs.declared.Located.the-variants as answer
-use Rattle.positions.specs.Positions.{origIn, incIn, positionVerdict, positionAnswer, PositionNear, locatedOf}
-
--- what holds of 0, 1 and 2 holds of each dimension
-each : (P : ℕ → Type 0) → P 0 → P 1 → P 2 → (k : ℕ) → k < 3 → P k
-each P p0 p1 p2 zero h = p0
-each P p0 p1 p2 (suc zero) h = p1
-each P p0 p1 p2 (suc (suc zero)) h = p2
-each P p0 p1 p2 (suc (suc (suc k))) h = absurd (omega arith)
+use Rattle.positions.specs.Positions.{origIn, incIn, positionVerdict, positionAnswer, PositionNear}
 
 -- ---- floats with the bits of finite fields are finite
 same-finite : (x : Float) (b : ℕ) → sameBits x b ≡ true → finiteBits b ≡ true → T (finite x)
@@ -40,13 +32,12 @@ three-finite xs bs s f =
     let g = all3-each finiteBits bs f in
     let p = both (sameBits (getD xs 0 nan) (getD bs 0 0) && sameBits (getD xs 1 nan) (getD bs 1 0)) (sameBits (getD xs 2 nan) (getD bs 2 0)) s in
     let q = both (sameBits (getD xs 0 nan) (getD bs 0 0)) (sameBits (getD xs 1 nan) (getD bs 1 0)) (p .0) in
-    each (λ k. T (finite (getD xs k nan))) (same-finite _ _ (q .0) (g .0)) (same-finite _ _ (q .1) (g .1)) (same-finite _ _ (p .1) (g .2))
+    each-of (λ k. T (finite (getD xs k nan))) (same-finite _ _ (q .0) (g .0)) (same-finite _ _ (q .1) (g .1)) (same-finite _ _ (p .1) (g .2))
 
 -- what position asks of a record that passes check 14
 module _ (r : Record) (e : breaks14 r ≡ false) where
   passes : Fit r
-  unfolding breaks14
-  passes = fits-all r (not-false (recordFits r) e)
+  passes = alone-fit r e
 
   pub grid-finite : (k : ℕ) → k < 3 → T (finite (origIn r k)) × T (finite (incIn r k))
   unfolding gridFits
@@ -62,7 +53,7 @@ module _ (r : Record) (e : breaks14 r ≡ false) where
   pub index-small : (k i : ℕ) → k < 3 → i < sizeOf (r .description) k → i < 1048576
   index-small k i h below =
       let s = described-sized _ _ (passes .is-described) in
-      omega (arith, each (λ k. sizeOf (r .description) k ≤ 1048576) (s .size0 .high) (s .size1 .high) (s .size2 .high) k h)
+      omega (arith, each-of (λ k. sizeOf (r .description) k ≤ 1048576) (s .size0 .high) (s .size1 .high) (s .size2 .high) k h)
 
 -- ---- the verdict by its cases
 module _ (r : Record) (k i : ℕ) where

@@ -1,11 +1,12 @@
 -- What the listing says of a file, in bytes of text.
 use mathlib.Core.Bool.{cond}
 use mathlib.Core.List.{List, [], _∷_, _++_}
+use mathlib.Core.Path.{_≡_, refl}
 use Prim.Native.Nat.{ℕ}
 use lib.Dec.{ltb}
 use lib.ListN.{getD, length}
 use Rattle.endian.specs.Loops.{cat}
-use Rattle.text.specs.Text.{bytesOf, decimal, signedDecimal}
+use Rattle.text.specs.Text.{bytesOf, digits, decimal, signedDecimal}
 use Rattle.record.specs.Types.{codingOf}
 use Rattle.record.specs.declared.Coding.{Coding}
 use Rattle.record.specs.declared.Coding.the-variants.{Scaled, Float32, NoType}
@@ -94,3 +95,16 @@ longest = 65536
 -- the listing of a file
 unfoldable pub listingOf : List ℕ → List ℕ
 listingOf f = cond (ltb longest (length f)) (bytesOf "too long\n") (linesBy (openVerdict f) (cubeLines f (recordIn f)))
+
+-- examples
+int8-constant : entryLine 0 2 (Constant 255) ≡ bytesOf "entry 2 constant -1\n"
+unfolding entryLine kindText constantText codingOf signedDecimal decimal digits
+int8-constant = refl
+
+float32-constant : entryLine 6 0 (Constant 1065353216) ≡ bytesOf "entry 0 constant 1065353216\n"
+unfolding entryLine kindText constantText codingOf decimal digits
+float32-constant = refl
+
+refusal : refusedLine (record { number = 12; entry = 2 }) ≡ bytesOf "refused 12 2\n"
+unfolding decimal digits
+refusal = refl

@@ -14,9 +14,8 @@ use text::push_bytes;
 use text::push_decimal;
 use text::push_signed;
 ghost use mathlib.Core.Path.{_≡_};
-ghost use mathlib.Core.List.{_++_};
 ghost use Prim.Native.Nat.{_<_};
-ghost use Rattle.text.specs.Text.{Pours, bytesOf};
+ghost use Rattle.text.specs.Text.{Pours};
 ghost use Rattle.opening.specs.Opening.{Bodied};
 ghost use Rattle.report.specs.Listing.{numbered, numberLine, threeLine, refusedLine, headerLines, constantText, kindText, entryLine, kindIn, cubeLines, listingOf};
 

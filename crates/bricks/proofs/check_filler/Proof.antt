@@ -6,7 +6,7 @@ use Rattle.checks.proofs.Described.{described-sized, described-width}
 use Rattle.cube.specs.Places.{itemBytes, rawOf}
 use Rattle.table.specs.declared.Kind.the-variants.{Constant}
 use Rattle.bricks.specs.Bricks.{filledWith, fillOf}
-use Rattle.bricks.proofs.Entries.{alone-fit}
+use Rattle.checks.proofs.Records.{alone-fit}
 use Rattle.bricks.proofs.Words.{filled-is}
 use Rattle.bricks.proofs.Views.{brick-words, filler-18, filler-17, filler-taken}
 use borrow.Author.Needs.{needs}

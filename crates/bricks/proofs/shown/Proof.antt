@@ -1,9 +1,8 @@
 -- `bricks::shown` meets its contract. Assumes nothing.
-use mathlib.Core.Path.{_≡_, sym, _∙_}
+use mathlib.Core.Path.{sym, _∙_}
 use Prim.Native.Nat.{_+_, _≤_}
 use native.Mathlib.Omega.{arith}
 use lib.ListN.{length}
-use Rattle.record.specs.Record.{brickBytesOf}
 use Rattle.checks.proofs.Described.{described-sized}
 use Rattle.bricks.proofs.Entries.{seen, stored-in}
 use Rattle.bricks.proofs.Views.{view-parts, missing-long, constant-long, shown-missing, shown-constant, shown-stored}

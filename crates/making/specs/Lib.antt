@@ -1,0 +1,4 @@
+-- The definitions that the contracts of making cite.
+pub mod Making
+pub mod Plan
+pub mod MadeOpens
