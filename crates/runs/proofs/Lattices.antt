@@ -1,0 +1,176 @@
+-- The numbers of a lattice: they are those of the region's places, and none of their sums and products wraps. Assumes nothing.
+use Prim.Native.Nat.{ℕ, _+_, _-_, _*_, _/_, _%_, _≤_, _<_, min}
+use mathlib.Core.Path.{_≡_, refl, sym, ap, subst, _∙_}
+use mathlib.Core.List.{List}
+use native.Mathlib.Omega.{arith}
+use native.Mathlib.Nat.{mod-lt, div-lt-iff-lt-mul, mul-le-mul, le-trans, lt-of-lt-of-le, le-mul-of-pos-right}
+use lib.ListN.{length}
+use Rattle.endian.specs.Loops.{tri}
+use Rattle.geometry.specs.Geometry.{tableStart, ceilDiv, halved}
+use Rattle.geometry.proofs.Levels.{half-le}
+use Rattle.geometry.proofs.Entries.{entry-is}
+use Rattle.record.specs.Types.{widthOf}
+use Rattle.record.specs.Record.{sideOf, countOf, bricksAlong, levelsOf, bricksOf, tableOf, headerOf, Sized}
+use Rattle.record.specs.declared.Record.{Record}
+use Rattle.record.proofs.Laws.{small, alphas-few}
+use Rattle.checks.proofs.Described.{described-sized, described-few, described-text, described-width}
+use Rattle.checks.proofs.Records.{Fit, fits-all}
+use Rattle.table.specs.Entries.{kindAt}
+use Rattle.table.specs.Windows.{Width}
+use Rattle.cube.specs.declared.Region.{Region}
+use Rattle.cube.specs.Places.{itemBytes, kindIn, entryIn, brickOf, itemNo, Inside}
+use Rattle.cube.specs.Regions.{startOf, runOf, place}
+use Rattle.cube.proofs.Places.{brick-of, brick-lt, item-lt}
+use Rattle.runs.specs.declared.Level.{Level}
+use Rattle.runs.specs.declared.Lattice.{Lattice}
+use Rattle.runs.specs.Runs.{levelOf, latticeOf, Allowed, Placed}
+
+-- a number of three digits, with its partial sums
+pub record Parts (m n a b c : ℕ) : Type 0 where
+  pub first : a * m ≤ tri m n a b c
+  pub second : a * m + b ≤ tri m n a b c
+  pub third : (a * m + b) * n ≤ tri m n a b c
+
+parts : (m n a b c : ℕ) → c < n → Parts m n a b c
+parts m n a b c h =
+    let pos : 0 < n = omega arith in
+    let up : a * m + b ≤ (a * m + b) * n = le-mul-of-pos-right (a * m + b) pos in
+    record { first = omega arith; second = omega arith; third = omega arith }
+
+-- the numbers of the sample that is i, j, k past the start
+pub record Numbers (q : Lattice) (i j k : ℕ) : Type 0 where
+  pub side0 : 0 < q .side0
+  pub side1 : 0 < q .side1
+  pub side2 : 0 < q .side2
+  pub at0 : q .start0 + i < 67108864
+  pub at1 : q .start1 + j < 67108864
+  pub at2 : q .start2 + k < 67108864
+  pub entry : Parts (q .crossline) (q .inline) ((q .start2 + k) / q .side2) ((q .start1 + j) / q .side1) ((q .start0 + i) / q .side0)
+  pub entries : q .base + tri (q .crossline) (q .inline) ((q .start2 + k) / q .side2) ((q .start1 + j) / q .side1) ((q .start0 + i) / q .side0) < 16384
+  pub item : Parts (q .side1) (q .side2) ((q .start0 + i) % q .side0) ((q .start1 + j) % q .side1) ((q .start2 + k) % q .side2)
+  pub items : tri (q .side1) (q .side2) ((q .start0 + i) % q .side0) ((q .start1 + j) % q .side1) ((q .start2 + k) % q .side2) < 16777216
+
+-- an index among n bricks of side s
+index-small : (s n x : ℕ) → s ≤ 256 → n ≤ 262144 → x < n * s → x < 67108864
+index-small s n x hs hn h = lt-of-lt-of-le h (mul-le-mul hn hs)
+
+module _ (r : Record) (g : Region) (i j k : ℕ) where
+  -- its entry, by the lattice
+  entry-on : latticeOf r g .base
+      + tri (latticeOf r g .crossline) (latticeOf r g .inline) ((latticeOf r g .start2 + k) / latticeOf r g .side2) ((latticeOf r g .start1 + j) / latticeOf r g .side1) ((latticeOf r g .start0 + i) / latticeOf r g .side0)
+      ≡ brickOf r (place g i j k)
+  unfolding latticeOf levelOf brickOf entryIn
+  entry-on = sym (entry-is (countOf (r .description) 0) (countOf (r .description) 1) (countOf (r .description) 2) (g .level) _ _ _)
+
+  module _ (ok : Fit r) (h : Inside r (place g i j k)) where
+    few : brickOf r (place g i j k) < 16384
+    few = omega (arith, brick-lt r ok (place g i j k) h, described-few _ _ (ok .is-described))
+
+    items-few : itemNo r (place g i j k) < 16777216
+    items-few =
+        let s = described-sized _ _ (ok .is-described) in
+        lt-of-lt-of-le (item-lt r ok (place g i j k)) (mul-le-mul (mul-le-mul (s .side0 .high) (s .side1 .high)) (s .side2 .high))
+
+    numbers-of : Numbers (latticeOf r g) i j k
+    unfolding latticeOf levelOf itemNo
+    numbers-of =
+        let s = described-sized _ _ (ok .is-described) in
+        let m = small (r .description) s in
+        let b = brick-of r ok (place g i j k) h in
+        let p2 : 0 < sideOf (r .description) 2 = omega (arith, s .side2 .low) in
+        record {
+          side0 = omega (arith, s .side0 .low);
+          side1 = omega (arith, s .side1 .low);
+          side2 = p2;
+          at0 = index-small _ (bricksAlong (r .description) (g .level) 0) _ (s .side0 .high) (le-trans (half-le _ (g .level)) (m .inline)) (h .has-i);
+          at1 = index-small _ (bricksAlong (r .description) (g .level) 1) _ (s .side1 .high) (le-trans (half-le _ (g .level)) (m .crossline)) (h .has-j);
+          at2 = index-small _ (bricksAlong (r .description) (g .level) 2) _ (s .side2 .high) (le-trans (half-le _ (g .level)) (m .vertical)) (h .has-k);
+          entry = parts _ _ _ _ _ (b .inline);
+          entries = rw entry-on few;
+          item = parts _ _ _ _ _ (mod-lt (startOf g 2 + k) p2);
+          items = items-few;
+        }
+
+module _ (r : Record) (g : Region) (q : Lattice) (i j k : ℕ) (p : Placed r g q i j k) where
+  pub fit-of : Fit r
+  fit-of = fits-all r (p .fitting)
+
+  pub numbers : Numbers q i j k
+  numbers = subst (λ (x : Lattice). Numbers x i j k) (sym (p .laid)) (numbers-of r g i j k fit-of (p .inside))
+
+  -- what the functions make of the lattice's numbers
+  pub entry-made : q .base + ((((q .start2 + k) / q .side2) * q .crossline + (q .start1 + j) / q .side1) * q .inline + (q .start0 + i) / q .side0) ≡ brickOf r (place g i j k)
+  entry-made =
+      ap (λ (x : Lattice). x .base + ((((x .start2 + k) / x .side2) * x .crossline + (x .start1 + j) / x .side1) * x .inline + (x .start0 + i) / x .side0)) (p .laid)
+      ∙ entry-on r g i j k
+
+  pub item-made : (((q .start0 + i) % q .side0) * q .side1 + (q .start1 + j) % q .side1) * q .side2 + (q .start2 + k) % q .side2 ≡ itemNo r (place g i j k)
+  unfolding latticeOf itemNo
+  item-made = ap (λ (x : Lattice). (((x .start0 + i) % x .side0) * x .side1 + (x .start1 + j) % x .side1) * x .side2 + (x .start2 + k) % x .side2) (p .laid)
+
+  pub left-made : q .side2 - (q .start2 + k) % q .side2 ≡ sideOf (r .description) 2 - (startOf g 2 + k) % sideOf (r .description) 2
+  unfolding latticeOf
+  left-made = ap (λ (x : Lattice). x .side2 - (x .start2 + k) % x .side2) (p .laid)
+
+  -- the entry lies in the table, which lies in the file
+  pub entry-in : (n e : ℕ) → r .length ≡ n → e ≡ brickOf r (place g i j k) → q .table + 8 * e + 8 ≤ n
+  unfolding latticeOf headerOf tableOf
+  entry-in n e l b =
+      let t : q .table ≡ tableOf (r .description) (r .text) = ap (λ (x : Lattice). x .table) (p .laid) in
+      omega (arith, t, fit-of .long, fit-of .header-is, brick-lt r fit-of (place g i j k) (p .inside))
+
+  pub width-made : q .width ≡ itemBytes r
+  unfolding latticeOf
+  width-made = ap (λ (x : Lattice). x .width) (p .laid)
+
+  pub width-ok : Width (q .width)
+  width-ok = rw width-made (described-width _ _ (fit-of .is-described))
+
+  pub kind-made : (f : List ℕ) (e : ℕ) → e ≡ brickOf r (place g i j k) → kindAt (q .width) f (q .table) e ≡ kindIn r f (brickOf r (place g i j k))
+  unfolding latticeOf kindIn
+  kind-made f e b = ap (λ (x : Lattice). kindAt (x .width) f (x .table) e) (p .laid) ∙ ap (kindIn r f) b
+
+-- ---- making a lattice
+
+module _ (r : Record) (g : Region) (h : Allowed r g) where
+  allowed-fit : Fit r
+  allowed-fit = fits-all r (h .fitting)
+
+  pub allowed-sized : Sized (r .description)
+  allowed-sized = described-sized _ _ (allowed-fit .is-described)
+
+  pub allowed-level : g .level < levelsOf (r .description)
+  allowed-level = rw (← allowed-fit .levels-is) (h .leveled)
+
+  pub table-small : (r .text ≤ 65536) × (r .alphas ≤ 1048576)
+  table-small = (
+    described-text _ _ (allowed-fit .is-described) .1,
+    omega (arith, alphas-few _ allowed-sized, described-few _ _ (allowed-fit .is-described), allowed-fit .alphas-is),
+  )
+
+  pub table-made : (t x y : ℕ) → t ≡ tableStart x y → x ≡ r .text → y ≡ r .alphas → t ≡ latticeOf r g .table
+  unfolding latticeOf tableOf
+  table-made t x y e ex ey = e ∙ rw (ex, ey, allowed-fit .alphas-is)
+
+  pub lattice-made : (v : Level) (t s0 s1 s2 w a0 a1 a2 n0 n1 n2 : ℕ) → v ≡ levelOf (r .description) (g .level) → t ≡ latticeOf r g .table
+      → s0 ≡ sideOf (r .description) 0 → s1 ≡ sideOf (r .description) 1 → s2 ≡ sideOf (r .description) 2 → w ≡ itemBytes r
+      → a0 ≡ startOf g 0 → a1 ≡ startOf g 1 → a2 ≡ startOf g 2 → n0 ≡ runOf g 0 → n1 ≡ runOf g 1 → n2 ≡ runOf g 2
+      → record {
+        table = t;
+        base = v .base;
+        inline = v .inline;
+        crossline = v .crossline;
+        side0 = s0;
+        side1 = s1;
+        side2 = s2;
+        width = w;
+        start0 = a0;
+        start1 = a1;
+        start2 = a2;
+        count0 = n0;
+        count1 = n1;
+        count2 = n2;
+      } ≡ latticeOf r g
+  unfolding latticeOf
+  lattice-made v t s0 s1 s2 w a0 a1 a2 n0 n1 n2 ev et e0 e1 e2 ew f0 f1 f2 m0 m1 m2 =
+      rw (ev, et, e0, e1, e2, ew, f0, f1, f2, m0, m1, m2)

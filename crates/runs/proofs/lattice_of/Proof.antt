@@ -1,0 +1,122 @@
+-- `runs::lattice_of` meets its contract. Assumes nothing.
+use native.Mathlib.Omega.{arith}
+use mathlib.Core.Path.{_∙_}
+use Rattle.runs.proofs.Lattices.{allowed-sized, allowed-level, table-small, table-made, lattice-made}
+use borrow.Author.Needs.{needs}
+use Rattle.runs.proofs.lattice_of.Statement.{statement}
+use Rattle.runs.proofs.lattice_of.Tie as tie
+
+level-of-requires : tie.Need-level-of-requires
+level-of-requires c κs =
+    let s = c .before .before .before .before in
+    (allowed-sized (s .args .r) (s .args .g) (s .pre), allowed-level (s .args .r) (s .args .g) (s .pre))
+
+wide-requires : tie.Need-wide-requires
+wide-requires c κs = search needs
+
+wide-requires-2 : tie.Need-wide-requires-2
+wide-requires-2 c κs = search needs
+
+table-start-requires : tie.Need-table-start-requires
+table-start-requires c κs =
+    let s = c .before .before .before .before .before .before .before in
+    let t = table-small (s .args .r) (s .args .g) (s .pre) in
+    (omega (arith, t, c .before .wide .ensures), omega (arith, t, c .wide2 .ensures))
+
+array-read-index : tie.Need-array-read-index
+array-read-index c = search needs
+
+index-requires : tie.Need-index-requires
+index-requires c κs = search needs
+
+array-read-index-2 : tie.Need-array-read-index-2
+array-read-index-2 c = search needs
+
+index-requires-2 : tie.Need-index-requires-2
+index-requires-2 c κs = search needs
+
+array-read-index-3 : tie.Need-array-read-index-3
+array-read-index-3 c = search needs
+
+index-requires-3 : tie.Need-index-requires-3
+index-requires-3 c κs = search needs
+
+width-of-requires : tie.Need-width-of-requires
+width-of-requires c κs = search needs
+
+array-read-index-4 : tie.Need-array-read-index-4
+array-read-index-4 c = search needs
+
+index-requires-4 : tie.Need-index-requires-4
+index-requires-4 c κs = search needs
+
+array-read-index-5 : tie.Need-array-read-index-5
+array-read-index-5 c = search needs
+
+index-requires-5 : tie.Need-index-requires-5
+index-requires-5 c κs = search needs
+
+array-read-index-6 : tie.Need-array-read-index-6
+array-read-index-6 c = search needs
+
+index-requires-6 : tie.Need-index-requires-6
+index-requires-6 c κs = search needs
+
+array-read-index-7 : tie.Need-array-read-index-7
+array-read-index-7 c = search needs
+
+index-requires-7 : tie.Need-index-requires-7
+index-requires-7 c κs = search needs
+
+array-read-index-8 : tie.Need-array-read-index-8
+array-read-index-8 c = search needs
+
+index-requires-8 : tie.Need-index-requires-8
+index-requires-8 c κs = search needs
+
+array-read-index-9 : tie.Need-array-read-index-9
+array-read-index-9 c = search needs
+
+index-requires-9 : tie.Need-index-requires-9
+index-requires-9 c κs = search needs
+
+returns : tie.Need-returns
+returns c =
+    let t = c .before .before .before .before .before .before .before .before .before .before in
+    let s = t .before .before .before .before .before .before .before .before in
+    lattice-made (s .args .r) (s .args .g) (s .pre) _ _ _ _ _ _ _ _ _ _ _ _
+    (t .before .before .before .level-of .ensures)
+    (table-made (s .args .r) (s .args .g) (s .pre) _ _ _ (t .table-start .ensures) (t .before .before .wide .ensures .0) (t .before .wide2 .ensures .0))
+    (c .before .before .before .before .before .before .before .before .before .index .ensures .0) (c .before .before .before .before .before .before .before .before .index2 .ensures .0) (c .before .before .before .before .before .before .before .index3 .ensures .0)
+    (c .before .before .before .before .before .before .width-of .ensures)
+    (c .before .before .before .before .before .index4 .ensures .0) (c .before .before .before .before .index5 .ensures .0) (c .before .before .before .index6 .ensures .0)
+    (c .before .before .index7 .ensures .0) (c .before .index8 .ensures .0) (c .index9 .ensures .0)
+
+pub lattice-of-spec : {M : Type 1} → statement M
+lattice-of-spec =
+    tie.close
+    (tie.spec
+    level-of-requires
+    wide-requires
+    wide-requires-2
+    table-start-requires
+    array-read-index
+    index-requires
+    array-read-index-2
+    index-requires-2
+    array-read-index-3
+    index-requires-3
+    width-of-requires
+    array-read-index-4
+    index-requires-4
+    array-read-index-5
+    index-requires-5
+    array-read-index-6
+    index-requires-6
+    array-read-index-7
+    index-requires-7
+    array-read-index-8
+    index-requires-8
+    array-read-index-9
+    index-requires-9
+    returns)

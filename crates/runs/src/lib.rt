@@ -1,0 +1,166 @@
+// Vertical runs: where the samples of a region lie in the bricks of its level. Raw reads, float reads and writes share this.
+// A record and a region that stand beside a lattice are what its promises are stated in; the code works with the lattice alone.
+use cube::Region;
+use geometry::ceil_div;
+use geometry::halved;
+use geometry::level_base;
+use geometry::table_start;
+use record::Description;
+use record::Record;
+use record::width_of;
+use table::Kind;
+use table::kind_at;
+ghost use mathlib.Core.Path.{_≡_};
+ghost use Prim.Native.Nat.{_+_, _-_, _%_, _<_, _≤_, min};
+ghost use lib.ListN.{length};
+ghost use Rattle.geometry.specs.Geometry.{ceilDiv};
+ghost use Rattle.record.specs.Record.{sideOf, levelsOf, Sized};
+ghost use Rattle.cube.specs.Places.{kindIn, brickOf, itemNo};
+ghost use Rattle.cube.specs.Regions.{startOf, place};
+ghost use Rattle.runs.specs.Runs.{levelOf, latticeOf, Allowed, Placed};
+
+// How the entries of a level are numbered: those before it, and its bricks inline and crossline.
+struct Level {
+    base: u64,
+    inline: u64,
+    crossline: u64,
+}
+
+// A region among the bricks of its level, worked out once for a call.
+pub struct Lattice {
+    // Where the brick table starts, and the entries before those of the level.
+    pub table: usize,
+    pub base: usize,
+    // The level's bricks inline and crossline.
+    pub inline: usize,
+    pub crossline: usize,
+    // The sides of a brick, and the bytes of an item.
+    pub side0: usize,
+    pub side1: usize,
+    pub side2: usize,
+    pub width: u32,
+    // Where the region starts, and how many samples it has.
+    pub start0: usize,
+    pub start1: usize,
+    pub start2: usize,
+    pub count0: usize,
+    pub count1: usize,
+    pub count2: usize,
+}
+
+fn wide(x: u32) -> u64
+    ensures { λ n. ⌜ (n ≡ x) × (n < 4294967296) ⌝ }
+{
+    x as u64
+}
+
+pub fn index(x: u32) -> usize
+    ensures { λ n. ⌜ (n ≡ x) × (n < 4294967296) ⌝ }
+{
+    x as usize
+}
+
+// The bricks of level 0 in a direction.
+fn bricks_over(size: u32, side: u32) -> u64
+    requires { ⌜ 1 ≤ side ⌝ }
+    ensures { λ n. ⌜ n ≡ ceilDiv size side ⌝ }
+{
+    ceil_div(wide(size), wide(side))
+}
+
+fn level_of(d: Description, level: u32) -> Level
+    requires { ⌜ Sized d × (level < levelsOf d) ⌝ }
+    ensures { λ v. ⌜ v ≡ levelOf d level ⌝ }
+{
+    let size = d.size;
+    let side = d.side;
+    let l = wide(level);
+    let a = bricks_over(size[0], side[0]);
+    let b = bricks_over(size[1], side[1]);
+    let c = bricks_over(size[2], side[2]);
+    Level {
+        base: level_base(a, b, c, l),
+        inline: halved(a, l),
+        crossline: halved(b, l),
+    }
+}
+
+// The lattice of a region.
+pub fn lattice_of(r: Record, g: Region) -> Lattice
+    requires { ⌜ Allowed r g ⌝ }
+    ensures { λ q. ⌜ q ≡ latticeOf r g ⌝ }
+{
+    let d = r.description;
+    let side = d.side;
+    let start = g.start;
+    let count = g.count;
+    let level = level_of(d, g.level);
+    Lattice {
+        table: table_start(wide(r.text), wide(r.alphas)) as usize,
+        base: level.base as usize,
+        inline: level.inline as usize,
+        crossline: level.crossline as usize,
+        side0: index(side[0]),
+        side1: index(side[1]),
+        side2: index(side[2]),
+        width: width_of(d.datatype),
+        start0: index(start[0]),
+        start1: index(start[1]),
+        start2: index(start[2]),
+        count0: index(count[0]),
+        count1: index(count[1]),
+        count2: index(count[2]),
+    }
+}
+
+// The entry of the brick that holds a sample of the region: inline runs fastest, vertical slowest.
+fn entry_on(r: Record, g: Region, q: Lattice, i: usize, j: usize, k: usize) -> usize
+    requires { ⌜ Placed r g q i j k ⌝ }
+    ensures { λ e. ⌜ e ≡ brickOf r (place g i j k) ⌝ }
+{
+    let x = (q.start0 + i) / q.side0;
+    let y = (q.start1 + j) / q.side1;
+    let z = (q.start2 + k) / q.side2;
+    q.base + ((z * q.crossline + y) * q.inline + x)
+}
+
+// What the brick that holds a sample of the region is.
+pub fn kind_on(file: &[u8], r: Record, g: Region, q: Lattice, i: usize, j: usize, k: usize) -> Kind
+    requires { ⌜ Placed r g q i j k ⌝ }
+    requires { ⌜ r .length ≡ length (now file) ⌝ }
+    ensures { λ κ. ⌜ κ ≡ kindIn r (now (file .entry)) (brickOf r (place g i j k)) ⌝ }
+{
+    kind_at(file, q.table, entry_on(r, g, q, i, j, k), q.width)
+}
+
+// A sample's item number in its brick: vertical runs fastest.
+pub fn item_on(r: Record, g: Region, q: Lattice, i: usize, j: usize, k: usize) -> usize
+    requires { ⌜ Placed r g q i j k ⌝ }
+    ensures { λ m. ⌜ m ≡ itemNo r (place g i j k) ⌝ }
+{
+    let x = (q.start0 + i) % q.side0;
+    let y = (q.start1 + j) % q.side1;
+    let z = (q.start2 + k) % q.side2;
+    (x * q.side1 + y) * q.side2 + z
+}
+
+// How many of the next n samples of a vertical run lie in the brick of the first.
+pub fn span(r: Record, g: Region, q: Lattice, i: usize, j: usize, k: usize, n: usize) -> usize
+    requires { ⌜ Placed r g q i j k ⌝ }
+    ensures { λ c. ⌜ c ≡ min (sideOf (r .description) 2 - (startOf g 2 + k) % sideOf (r .description) 2) n ⌝ }
+{
+    let left = q.side2 - (q.start2 + k) % q.side2;
+    if left < n { left } else { n }
+}
+
+// The copying leaf.
+pub fn copy(out: &mut [u8], src: &[u8])
+    requires { ⌜ length (now src) ≡ length (now out) ⌝ }
+    ensures { λ _. ⌜ now (out .exit) ≡ now (src .entry) ⌝ }
+{
+    let mut t = 0;
+    while t < out.len() {
+        out[t] = src[t];
+        t += 1;
+    }
+}

@@ -1,0 +1,3 @@
+-- Laws of the float read.
+pub mod Pieces
+pub mod Taken

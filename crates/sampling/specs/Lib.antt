@@ -1,0 +1,2 @@
+-- The definitions that the contracts of sampling cite.
+pub mod Samples
