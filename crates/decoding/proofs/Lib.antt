@@ -1,2 +1,2 @@
--- Laws of filling a buffer, and of the types of items.
+-- Laws of the types of items.
 pub mod Items

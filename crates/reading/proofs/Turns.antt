@@ -1,6 +1,6 @@
 -- The turns of a vertical run: what the calls of a turn answered comes in as equations. Assumes nothing.
 use Prim.Native.Nat.{ℕ, _+_, _*_, _-_, _%_, _≤_, _<_}
-use mathlib.Core.Path.{_≡_, refl, sym, ap, _∙_}
+use mathlib.Core.Path.{_≡_, sym, ap, _∙_}
 use mathlib.Core.List.{List, _++_}
 use native.Mathlib.Nat.{le-trans, add-sub-cancel-left}
 use lib.ListN.{length}

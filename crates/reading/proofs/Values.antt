@@ -1,8 +1,8 @@
 -- A value's low bytes, one after the other. Assumes nothing.
-use Prim.Native.Nat.{ℕ, zero, suc, _+_, _*_, _/_, _%_, _^_}
+use Prim.Native.Nat.{ℕ, zero, suc, _+_, _/_, _%_, _^_}
 use mathlib.Core.Path.{_≡_, refl, ap, sym, _∙_}
 use mathlib.Core.List.{List, [], _∷_, _++_}
-use native.Mathlib.Nat.{mul-comm, mul-one, div-one, div-div-eq-div-mul, pow-suc}
+use native.Mathlib.Nat.{mul-comm, div-one, div-div-eq-div-mul, pow-suc}
 use native.Mathlib.Numerals.{add-one}
 use lib.ListN.{replicate, replicate-append-replicate}
 use Rattle.endian.specs.Loops.{cat}

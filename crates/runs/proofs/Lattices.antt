@@ -1,16 +1,15 @@
 -- The numbers of a lattice: they are those of the region's places, and none of their sums and products wraps. Assumes nothing.
-use Prim.Native.Nat.{ℕ, _+_, _-_, _*_, _/_, _%_, _≤_, _<_, min}
-use mathlib.Core.Path.{_≡_, refl, sym, ap, subst, _∙_}
+use Prim.Native.Nat.{ℕ, _+_, _-_, _*_, _/_, _%_, _≤_, _<_}
+use mathlib.Core.Path.{_≡_, sym, ap, subst, _∙_}
 use mathlib.Core.List.{List}
 use native.Mathlib.Omega.{arith}
-use native.Mathlib.Nat.{mod-lt, div-lt-iff-lt-mul, mul-le-mul, le-trans, lt-of-lt-of-le, le-mul-of-pos-right}
+use native.Mathlib.Nat.{mod-lt, mul-le-mul, le-trans, lt-of-lt-of-le, le-mul-of-pos-right}
 use lib.ListN.{length}
 use Rattle.endian.specs.Loops.{tri}
-use Rattle.geometry.specs.Geometry.{tableStart, ceilDiv, halved}
+use Rattle.geometry.specs.Geometry.{tableStart}
 use Rattle.geometry.proofs.Levels.{half-le}
 use Rattle.geometry.proofs.Entries.{entry-is}
-use Rattle.record.specs.Types.{widthOf}
-use Rattle.record.specs.Record.{sideOf, countOf, bricksAlong, levelsOf, bricksOf, tableOf, headerOf, Sized}
+use Rattle.record.specs.Record.{sideOf, countOf, bricksAlong, levelsOf, tableOf, headerOf, Sized}
 use Rattle.record.specs.declared.Record.{Record}
 use Rattle.record.proofs.Laws.{small, alphas-few}
 use Rattle.checks.proofs.Described.{described-sized, described-few, described-text, described-width}

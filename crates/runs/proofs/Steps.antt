@@ -1,29 +1,27 @@
 -- One turn of a loop over a vertical run: the samples that lie in the brick of the next. Assumes nothing.
 use Prim.Native.Nat.{ℕ, _+_, _-_, _*_, _%_, _≤_, _<_, min}
-use mathlib.Core.Path.{_≡_, refl, sym, ap, _∙_}
+use mathlib.Core.Path.{_≡_, sym, ap, _∙_}
 use mathlib.Core.List.{List}
 use native.Mathlib.Omega.{arith}
-use native.Mathlib.Nat.{mod-lt, mul-le-mul-right, add-mul}
+use native.Mathlib.Nat.{mod-lt, mul-le-mul-right}
 use lib.Arith.{digits-lt}
-use lib.ListN.{length}
 use Rattle.endian.proofs.Digits.{next-item}
 use Rattle.geometry.specs.Geometry.{extent}
 use Rattle.geometry.proofs.Levels.{at-direct, half-le}
-use Rattle.record.specs.Record.{sideOf, sizeOf, levelsOf, brickBytesOf}
+use Rattle.record.specs.Record.{sideOf, sizeOf, brickBytesOf}
 use Rattle.record.specs.declared.Record.{Record}
 use Rattle.checks.proofs.Described.{described-sized, described-width}
 use Rattle.checks.proofs.Records.{Fit, fits-all, fits-is}
 use Rattle.table.specs.Windows.{Width}
-use Rattle.table.specs.declared.Kind.the-variants.{Stored}
 use Rattle.cube.specs.declared.Region.{Region}
-use Rattle.cube.specs.Places.{itemBytes, kindIn, brickOf, itemNo, byteOf, Inside}
+use Rattle.cube.specs.Places.{itemBytes, brickOf, itemNo}
 use Rattle.cube.specs.Regions.{startOf, runOf, place}
-use Rattle.cube.proofs.Valid.{headers, brickLength, Lent}
+use Rattle.cube.proofs.Valid.{brickLength}
 use Rattle.cube.proofs.Places.{sides, brick-lt}
 use Rattle.cube.proofs.Regions.{Passed, touched-fits, all-inside}
 use Rattle.cube.proofs.Writes.{Kept, kept-kind}
 use Rattle.runs.specs.declared.Lattice.{Lattice}
-use Rattle.runs.specs.Runs.{latticeOf, Allowed, Placed, Ends, Ready}
+use Rattle.runs.specs.Runs.{latticeOf, Allowed, Placed, Ready}
 
 -- ---- from the verdict to the loops
 

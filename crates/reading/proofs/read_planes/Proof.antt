@@ -1,6 +1,6 @@
 -- `reading::read_planes` meets its contract. Assumes nothing.
-use Prim.Native.Nat.{ℕ, _-_, _*_, _<_}
-use mathlib.Core.Path.{_≡_, sym, ap, _∙_}
+use Prim.Native.Nat.{_-_, _<_}
+use mathlib.Core.Path.{_≡_}
 use native.Mathlib.Omega.{arith}
 use Rattle.endian.specs.Loops.{cat}
 use Rattle.cube.specs.Places.{rowsOf, rawOf}

@@ -1,7 +1,6 @@
 -- `runs::kind_on` meets its contract. Assumes nothing.
 use mathlib.Core.Path.{_∙_}
 use Rattle.runs.proofs.Lattices.{entry-in, width-ok, kind-made}
-use borrow.Author.Needs.{needs}
 use Rattle.runs.proofs.kind_on.Statement.{statement}
 use Rattle.runs.proofs.kind_on.Tie as tie
 

@@ -1,6 +1,5 @@
 -- `runs::lattice_of` meets its contract. Assumes nothing.
 use native.Mathlib.Omega.{arith}
-use mathlib.Core.Path.{_∙_}
 use Rattle.runs.proofs.Lattices.{allowed-sized, allowed-level, table-small, table-made, lattice-made}
 use borrow.Author.Needs.{needs}
 use Rattle.runs.proofs.lattice_of.Statement.{statement}

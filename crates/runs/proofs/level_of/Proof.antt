@@ -1,5 +1,4 @@
 -- `runs::level_of` meets its contract. Assumes nothing.
-use Prim.Native.Nat.{_≤_}
 use Rattle.runs.specs.Runs.{levelOf}
 use Rattle.record.specs.Record.{levelsOf}
 use Rattle.record.proofs.Laws.{small}

@@ -2,7 +2,6 @@
 use Prim.Native.Nat.{_-_, _*_}
 use mathlib.Core.Path.{_≡_, sym, ap, ap₂, _∙_}
 use native.Mathlib.Omega.{arith}
-use lib.ListN.{length}
 use Rattle.endian.specs.Loops.{cat}
 use Rattle.cube.specs.Regions.{runOf}
 use Rattle.endian.proofs.Parts.{Turns, turns-none, turns-room, turns-more, turns-all}

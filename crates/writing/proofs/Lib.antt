@@ -1,0 +1,3 @@
+-- Laws of writing: the headers stay while a region is written, and the turns of its loops.
+pub mod Keeps
+pub mod Turns
