@@ -2,8 +2,7 @@
 use mathlib.Core.Bool.{Bool, true, false, not, cond, _&&_}
 use mathlib.Core.List.{List}
 use mathlib.Core.Path.{_≡_, refl, sym, ap, _∙_}
-use Prim.Native.Nat.{ℕ, _+_, _-_, _*_, _%_, _^_, _≤_, _<_}
-use native.Mathlib.Nat.{mod-lt, one-le-pow}
+use Prim.Native.Nat.{ℕ, _+_, _-_, _*_, _^_, _≤_, _<_}
 use native.Mathlib.Omega.{arith}
 use lib.Dec.{eqb, leb}
 use lib.ListN.{length}
@@ -21,9 +20,9 @@ use Rattle.record.specs.declared.Verdict.the-variants.{Taken, Refused}
 use Rattle.checks.specs.Fits.{breaks14, breaks14With}
 use Rattle.checks.proofs.Described.{both, not-false}
 use Rattle.checks.proofs.Records.{Fit, fits-is, with-fit}
-use Rattle.table.specs.declared.Kind.the-variants.{Missing, Constant, Stored}
+use Rattle.table.specs.declared.Kind.the-variants.{Stored}
 use Rattle.table.specs.Entries.{kindOf, kindAt, outOfRange, lowestOutOfRange}
-use Rattle.table.proofs.Words.{words, kind-missing, kind-zero, kind-constant, kind-offset}
+use Rattle.table.proofs.Words.{constant-fits}
 use Rattle.cube.specs.Places.{itemBytes, kindIn}
 use Rattle.cube.specs.Regions.{badRange}
 use Rattle.bricks.specs.Bricks.{brickOf, kindVerdict, kindAnswer}
@@ -32,27 +31,10 @@ use Rattle.bricks.specs.declared.Found.the-variants as found
 use Rattle.bricks.specs.Filler.{Narrow}
 
 -- ---- a constant's number
-not-missing : (c : ℕ) → Missing ≡ Constant c → ⊥
-not-missing c e = let z : _≡_ {A = ℕ} 0 1 = cc in omega arith
-
-not-stored : (o c : ℕ) → Stored o ≡ Constant c → ⊥
-not-stored o c e = let z : _≡_ {A = ℕ} 0 1 = cc in omega arith
-
-same-constant : (a c : ℕ) → Constant a ≡ Constant c → a ≡ c
-same-constant a c e = cc
-
-pub kind-narrow : (w v : ℕ) → Narrow w (kindOf w v)
-kind-narrow w v c e =
-    let p : 0 < 256 ^ w = one-le-pow w 256 (omega arith) in
-    words v
-    (λ z. absurd (not-missing c (sym (kind-missing w v z) ∙ e)))
-    (λ z. rw (← same-constant 0 c (sym (kind-zero w v z) ∙ e)) p)
-    (λ h. rw (← same-constant (v % 256 ^ w) c (sym (kind-constant w v h) ∙ e)) (mod-lt v p))
-    (λ lo hi. absurd (not-stored v c (sym (kind-offset w v lo hi) ∙ e)))
 
 pub narrow-in : (r : Record) (f : List ℕ) (e : ℕ) → Narrow (itemBytes r) (kindIn r f e)
 unfolding kindIn kindAt
-narrow-in r f e = kind-narrow (itemBytes r) _
+narrow-in r f e c q = constant-fits (itemBytes r) _ c q
 
 -- a number of an integer type's bytes is below twice its half
 pub in-half : (k w h raw : ℕ) → Coding.Scaled w h ≡ codingOf k → raw < 256 ^ widthOf k → (h ≤ 32768) × (0 < h) × (raw < 2 * h)

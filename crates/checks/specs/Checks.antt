@@ -6,7 +6,7 @@ use lib.Dec.{eqb, leb, ltb}
 use lib.ListN.{getD, length}
 use Rattle.endian.specs.Loops.{sumTo}
 use Rattle.floats.specs.Rules.{finiteBits, rangeOk}
-use Rattle.record.specs.Answers.{refused, andThen}
+use Rattle.record.specs.Answers.{refused}
 use Rattle.record.specs.Types.{codingOf, noType}
 use Rattle.record.specs.Record.{bricksOf}
 use Rattle.record.specs.declared.Description.{Description}

@@ -1,8 +1,7 @@
 -- Numbers of two and three digits, as entry numbers, item numbers and places in a region are. Assumes nothing.
-use Prim.Native.Nat.{ℕ, zero, suc, _+_, _*_, _/_, _%_, _≤_, _<_}
-use mathlib.Core.Path.{_≡_, refl, sym, ap, _∙_}
-use native.Mathlib.Omega.{arith}
-use native.Mathlib.Nat.{suc-mul, mul-le-mul-right, div-add-mod', add-mul, add-zero, add-suc, zero-mul}
+use Prim.Native.Nat.{ℕ, suc, _+_, _*_, _/_, _%_, _≤_, _<_}
+use mathlib.Core.Path.{_≡_, sym, ap, _∙_}
+use native.Mathlib.Nat.{suc-mul, mul-le-mul-right, div-add-mod', add-zero, add-suc}
 use lib.Arith.{digits-lt, digits-div, digits-mod}
 use Rattle.endian.specs.Loops.{tri}
 

@@ -1,4 +1,4 @@
-// Little-endian numbers at a place of a lent slice.
+// Little-endian numbers at a place of a lent slice, and the leaf that copies one slice into another.
 ghost use mathlib.Core.Path.{_≡_};
 ghost use Prim.Native.Nat.{_+_, _*_, _<_, _≤_};
 ghost use lib.ListN.{length, getD};
@@ -50,4 +50,16 @@ pub fn u64_at(s: &[u8], at: usize) -> u64
     ensures { λ r. ⌜ r ≡ le 8 (now (s .entry)) at ⌝ }
 {
     join_halves(u32_at(s, at), u32_at(s, at + 4))
+}
+
+// The copying leaf.
+pub fn copy(out: &mut [u8], src: &[u8])
+    requires { ⌜ length (now src) ≡ length (now out) ⌝ }
+    ensures { λ _. ⌜ now (out .exit) ≡ now (src .entry) ⌝ }
+{
+    let mut t = 0;
+    while t < out.len() {
+        out[t] = src[t];
+        t += 1;
+    }
 }

@@ -4,7 +4,7 @@ use Prim.Native.Nat.{ℕ, zero, suc, _+_, _*_, _/_, _%_, _^_, _≤_, _<_}
 use native.Mathlib.Nat.{mod-lt}
 use native.Mathlib.Omega.{arith}
 use mathlib.Core.Bool.{Bool, true, false, not, _&&_, cond, true≢false, false≢true, and-false}
-use lib.Dec.{T, leb, ltb, eqb, eqb→eq, ltb→lt, nltb→le, lit<}
+use lib.Dec.{T, leb, ltb, eqb, eqb→eq, lit<}
 use lib.Ieee.{Float, nan, inf, fin, Format, binary32, binary64, odd, ofFields, ofBits, nanBits, toBits, isNan, fits, ne, lt, mul, ofInt, round, units, unlike, prec, emax, low, up, down}
 use lib.IntN.{pos}
 use lib.Ieee.Fits.{and-i, and-l, and-r, fits-widens, round-is}

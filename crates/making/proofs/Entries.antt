@@ -1,15 +1,14 @@
 -- The text, the entries and the bricks of a made file, read again. Assumes nothing.
-use mathlib.Core.List.{List, [], _∷_, _++_, append-assoc}
+use mathlib.Core.List.{List, _++_, append-assoc}
 use mathlib.Core.Logic.{⊎-elim}
-use mathlib.Core.Path.{_≡_, refl, sym, ap, _∙_}
-use Prim.Native.Nat.{ℕ, _+_, _-_, _*_, _%_, _^_, _≤_, _<_}
+use mathlib.Core.Path.{_≡_, refl, ap, _∙_}
+use Prim.Native.Nat.{ℕ, _+_, _-_, _*_, _^_, _≤_, _<_}
 use native.Mathlib.Omega.{arith}
 use lib.ListN.{length, take, drop, replicate, length-append}
 use lib.Seq.{take-at, drop-at, drop-append-add}
 use Rattle.endian.specs.Loops.{cat}
-use Rattle.endian.specs.Bytes.{peek, le, lows}
+use Rattle.endian.specs.Bytes.{peek, le}
 use Rattle.endian.proofs.Digits.{next-item}
-use Rattle.geometry.specs.Geometry.{ceilDiv}
 use Rattle.record.specs.Types.{widthOf}
 use Rattle.record.specs.Header.{textOf}
 use Rattle.record.specs.Record.{alphasOf, bricksOf, brickBytesOf, tableOf, headerOf}
@@ -28,7 +27,7 @@ use Rattle.making.specs.declared.Fill.{Fill}
 use Rattle.making.specs.declared.Fill.the-variants.{Constant, Stored}
 use Rattle.endian.proofs.Bytes.{le-lows}
 use Rattle.making.proofs.Bytes.{le-after, le-cat, peek-zeros}
-use Rattle.making.proofs.Sizes.{Multiple, header-few, brick-pos, brick-few, bricks-few, first-brick, bricks-bytes}
+use Rattle.making.proofs.Sizes.{header-few, brick-few, first-brick, bricks-bytes}
 use Rattle.making.proofs.Files.{file-header-length, info-header-length, entry-length, beforeTable, before-length, headers-length}
 
 -- ---- the file in two parts, at its text and at its table

@@ -1,12 +1,12 @@
 -- The fields of a made header, read again: everything up to the text is computed. Assumes nothing.
 use mathlib.Core.Bool.{false}
 use mathlib.Core.List.{List, [], _∷_, _++_}
-use mathlib.Core.Path.{_≡_, refl, sym, ap, _∙_}
-use Prim.Native.Nat.{ℕ, zero, suc, _+_, _<_}
+use mathlib.Core.Path.{_≡_, refl}
+use Prim.Native.Nat.{ℕ, suc, _+_, _<_}
 use native.Mathlib.Omega.{arith}
 use lib.ListN.{getD, length}
 use Rattle.endian.specs.Bytes.{le, lows}
-use Rattle.record.specs.Header.{threeAt, twoAt, idAt, versionOf, descriptionOf, textLengthOf}
+use Rattle.record.specs.Header.{versionOf, descriptionOf, textLengthOf}
 use Rattle.record.specs.declared.Description.{Description}
 use Rattle.checks.specs.Checks.{breaks2}
 use Rattle.making.specs.Making.{fileHeader, brickFields, idFields, gridFields, currentFields, surveyFields, unitFields, infoHeader}

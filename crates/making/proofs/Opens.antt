@@ -1,36 +1,34 @@
 -- A made cube opens again. Assumes nothing.
 use mathlib.Core.Bool.{false}
-use mathlib.Core.List.{List, [], _∷_, _++_}
+use mathlib.Core.List.{List}
 use mathlib.Core.Logic.{_⊎_, inl}
-use mathlib.Core.Path.{_≡_, refl, sym, ap, _∙_}
+use mathlib.Core.Path.{_≡_, refl, sym, _∙_}
 use Prim.Native.Nat.{ℕ, _+_, _-_, _*_, _≤_, _<_}
 use native.Mathlib.Omega.{arith}
 use lib.ListN.{getD, length, replicate}
-use Rattle.endian.specs.Loops.{cat}
-use Rattle.endian.specs.Bytes.{Bytes, peek, lows}
+use Rattle.endian.specs.Bytes.{Bytes, peek}
 use Rattle.endian.proofs.Digits.{next-item}
 use Rattle.record.specs.Header.{versionOf, descriptionOf, textLengthOf, textOf}
 use Rattle.record.specs.Record.{alphasOf, bricksOf, brickBytesOf, headerOf, recordOf}
 use Rattle.record.specs.declared.Description.{Description}
 use Rattle.record.specs.declared.Verdict.the-variants.{Taken}
 use Rattle.checks.specs.Checks.{breaks2, breaks3, breaks11, described}
-use Rattle.checks.proofs.Described.{Described, described-all}
+use Rattle.checks.proofs.Described.{described-all}
 use Rattle.table.specs.Entries.{lowestOutOfRange, lowestOverlap}
-use Rattle.table.specs.declared.Kind.{Kind}
 use Rattle.table.specs.declared.Kind.the-variants as kind
 use Rattle.table.proofs.Range.{range-all}
 use Rattle.table.proofs.Overlaps.{overlap-all}
-use Rattle.opening.specs.Opening.{kindsOf, openVerdict, recordIn}
+use Rattle.opening.specs.Opening.{kindsOf, recordIn}
 use Rattle.opening.proofs.Rules.{Passed, passed-opened}
-use Rattle.making.specs.Making.{zeroBytes, three, storedId, surveyOf, fileHeader, brickFields, idFields, gridFields, currentFields, surveyFields, unitFields, infoHeader, firstBrick, entryBytes, afterHeaders, madeLength, madeFile, makeVerdict}
-use Rattle.making.specs.MadeOpens.{Items, Machine, brickAt, madeKind, Opens, MadeOpens}
+use Rattle.making.specs.Making.{three, storedId, surveyOf, fileHeader, brickFields, idFields, gridFields, currentFields, surveyFields, unitFields, infoHeader, firstBrick, entryBytes, afterHeaders, madeLength, madeFile}
+use Rattle.making.specs.MadeOpens.{Items, Machine, brickAt, madeKind, MadeOpens}
 use Rattle.making.specs.declared.Fill.{Fill}
 use Rattle.making.specs.declared.Fill.the-variants.{Constant, Stored}
-use Rattle.making.proofs.Bytes.{IsBytes, none-bytes, cons-bytes, one-byte, _and_, lows-bytes, zeros-bytes, cat-bytes}
-use Rattle.making.proofs.Sizes.{text-few, header-few}
-use Rattle.making.proofs.Files.{Checked, checked, file-length}
+use Rattle.making.proofs.Bytes.{IsBytes, cons-bytes, one-byte, _and_, lows-bytes, zeros-bytes, cat-bytes}
+use Rattle.making.proofs.Sizes.{text-few}
+use Rattle.making.proofs.Files.{checked, file-length}
 use Rattle.making.proofs.Fields.{front-magic, front-version, front-text, front-description}
-use Rattle.making.proofs.Entries.{at-text, text-read, Placed, placed, kinds-read, brick-read}
+use Rattle.making.proofs.Entries.{at-text, text-read, placed, kinds-read, brick-read}
 
 -- ---- every number of the file is a byte
 

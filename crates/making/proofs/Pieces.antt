@@ -4,7 +4,7 @@ use mathlib.Core.Path.{_≡_, refl, sym, ap, subst, _∙_}
 use Prim.Native.Nat.{ℕ, _+_, _-_, _*_, _≤_, _<_, min}
 use native.Mathlib.Decide.{decLe}
 use native.Mathlib.Omega.{arith}
-use lib.ListN.{length, set, length-set, length-replicate, replicate-append-replicate}
+use lib.ListN.{length, set, length-set, replicate-append-replicate}
 use Rattle.endian.specs.Loops.{cat}
 use Rattle.endian.specs.Bytes.{lows}
 use Rattle.text.specs.Text.{poured, Pours}

@@ -1,10 +1,9 @@
 -- The numbers of a made cube, and their bounds. Assumes nothing.
-use mathlib.Core.Path.{_≡_, refl, sym, ap, _∙_}
+use mathlib.Core.Path.{_≡_, refl, ap, _∙_}
 use Prim.Native.Nat.{ℕ, _+_, _-_, _*_, _≤_, _<_, min}
 use native.Mathlib.Decide.{decLe}
 use native.Mathlib.Nat.{mul-le-mul, div-mul-le-self, le-refl, le-trans}
 use native.Mathlib.Omega.{arith}
-use lib.Dec.{leb}
 use borrow.Author.Tests.{le-leb, lt-leb}
 use Rattle.floats.specs.Rules.{finiteBits}
 use Rattle.geometry.specs.Geometry.{ceilDiv, headerEnd}
@@ -14,7 +13,7 @@ use Rattle.record.specs.declared.Description.{Description}
 use Rattle.record.specs.declared.Verdict.the-variants.{Taken}
 use Rattle.record.proofs.Laws.{width-le, alphas-few}
 use Rattle.checks.specs.Checks.{breaks9, described}
-use Rattle.checks.proofs.Described.{all3-each, Described, described-all, described-sized, described-few, described-text, described-brick}
+use Rattle.checks.proofs.Described.{all3-each, described-all, described-sized, described-few, described-text, described-brick}
 use Rattle.checks.proofs.Records.{finites}
 use Rattle.making.specs.Making.{firstBrick, madeLength}
 use Rattle.making.specs.Plan.{Measured, firstEntry, entryStep, planOf}

@@ -1,5 +1,5 @@
 -- Making a cube: version 3, from a description and a lent text.
-use mathlib.Core.Bool.{Bool, cond}
+use mathlib.Core.Bool.{cond}
 use mathlib.Core.List.{List, [], _∷_, _++_}
 use Prim.Native.Nat.{ℕ, _+_, _-_, _*_, _^_}
 use lib.Dec.{ltb}
@@ -10,7 +10,7 @@ use Rattle.endian.specs.Bytes.{lows}
 use Rattle.geometry.specs.Geometry.{ceilDiv}
 use Rattle.floats.specs.Rules.{surveySize}
 use Rattle.record.specs.Answers.{refused, andThen}
-use Rattle.record.specs.Record.{sizeOf, sideOf, bricksOf, alphasOf, brickBytesOf, headerOf}
+use Rattle.record.specs.Record.{sizeOf, bricksOf, alphasOf, brickBytesOf, headerOf}
 use Rattle.record.specs.declared.Description.{Description}
 use Rattle.record.specs.declared.Verdict.{Verdict}
 use Rattle.record.specs.declared.Verdict.the-variants.{Taken, Refused}

@@ -1,8 +1,8 @@
 -- The parts of making: the numbers that a made cube follows from, and what its functions ask of a description.
-use mathlib.Core.Bool.{Bool, true, cond}
+use mathlib.Core.Bool.{true, cond}
 use mathlib.Core.List.{List, [], _∷_, _++_}
 use mathlib.Core.Path.{_≡_}
-use Prim.Native.Nat.{ℕ, _+_, _*_, _^_, _≤_, _<_}
+use Prim.Native.Nat.{ℕ, _+_, _*_, _^_, _≤_}
 use lib.Dec.{ltb}
 use lib.ListN.{getD, length}
 use Rattle.endian.specs.Bytes.{lows}

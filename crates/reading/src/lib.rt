@@ -1,12 +1,12 @@
 // Raw reads: the bytes of a region's samples, vertical fastest and inline slowest, into the front of a lent buffer.
 // The work grows with the region alone: one entry is looked up for each brick that a vertical run passes, and one part is copied.
 use cube::Region;
+use endian::copy;
 use record::Done;
 use record::Record;
 use record::Verdict;
 use regions::raw_verdict;
 use runs::Lattice;
-use runs::copy;
 use runs::index;
 use runs::item_on;
 use runs::kind_on;

@@ -2,10 +2,7 @@
 // All are done before a byte moves. Their cost grows with the bricks that the region touches, never with the cube.
 use checks::check14_with;
 use cube::Region;
-use geometry::ceil_div;
 use geometry::extent_at;
-use geometry::halved;
-use geometry::level_base;
 use geometry::table_start;
 use record::Description;
 use record::Record;
@@ -14,14 +11,15 @@ use record::brick_bytes_in;
 use record::refuse;
 use record::refuse_at;
 use record::width_of;
+use runs::level_of;
 use table::Kind;
 use table::kind_at;
 ghost use mathlib.Core.Path.{_≡_};
 ghost use mathlib.Core.Bool.{true, _&&_};
-ghost use Prim.Native.Nat.{ℕ, _+_, _*_, _≤_, _<_};
+ghost use Prim.Native.Nat.{_+_, _*_, _≤_, _<_};
 ghost use lib.Dec.{leb};
 ghost use lib.ListN.{length};
-ghost use Rattle.geometry.specs.Geometry.{ceilDiv, extent};
+ghost use Rattle.geometry.specs.Geometry.{extent};
 ghost use Rattle.record.specs.Record.{levelsOf, Sized};
 ghost use Rattle.checks.specs.Fits.{recordFits};
 ghost use Rattle.table.specs.Entries.{outOfRange};
@@ -141,31 +139,17 @@ fn bricks_along(side: u32, start: u32, count: u32) -> Along
     }
 }
 
-// The bricks of level 0 in a direction.
-fn bricks_over(size: u32, side: u32) -> u64
-    requires { ⌜ 1 ≤ side ⌝ }
-    ensures { λ n. ⌜ n ≡ ceilDiv size side ⌝ }
-{
-    ceil_div(wide(size), wide(side))
-}
-
 // How the entries of a level are numbered.
 fn steps_of(d: Description, level: u32) -> Steps
     requires { ⌜ Sized d × (level < levelsOf d) ⌝ }
     ensures { λ s. ⌜ s ≡ stepsOf d level ⌝ }
 {
-    let size = d.size;
-    let side = d.side;
-    let l = wide(level);
-    let a = bricks_over(size[0], side[0]);
-    let b = bricks_over(size[1], side[1]);
-    let c = bricks_over(size[2], side[2]);
-    let base = level_base(a, b, c, l);
-    let row = halved(a, l);
+    let l = level_of(d, level);
+    let row = l.inline;
     Steps {
-        base,
+        base: l.base,
         row,
-        layer: row * halved(b, l),
+        layer: row * l.crossline,
     }
 }
 

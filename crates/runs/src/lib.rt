@@ -20,10 +20,10 @@ ghost use Rattle.cube.specs.Regions.{startOf, place};
 ghost use Rattle.runs.specs.Runs.{levelOf, latticeOf, Allowed, Placed};
 
 // How the entries of a level are numbered: those before it, and its bricks inline and crossline.
-struct Level {
-    base: u64,
-    inline: u64,
-    crossline: u64,
+pub struct Level {
+    pub base: u64,
+    pub inline: u64,
+    pub crossline: u64,
 }
 
 // A region among the bricks of its level, worked out once for a call.
@@ -68,7 +68,7 @@ fn bricks_over(size: u32, side: u32) -> u64
     ceil_div(wide(size), wide(side))
 }
 
-fn level_of(d: Description, level: u32) -> Level
+pub fn level_of(d: Description, level: u32) -> Level
     requires { ⌜ Sized d × (level < levelsOf d) ⌝ }
     ensures { λ v. ⌜ v ≡ levelOf d level ⌝ }
 {
@@ -151,16 +151,4 @@ pub fn span(r: Record, g: Region, q: Lattice, i: usize, j: usize, k: usize, n: u
 {
     let left = q.side2 - (q.start2 + k) % q.side2;
     if left < n { left } else { n }
-}
-
-// The copying leaf.
-pub fn copy(out: &mut [u8], src: &[u8])
-    requires { ⌜ length (now src) ≡ length (now out) ⌝ }
-    ensures { λ _. ⌜ now (out .exit) ≡ now (src .entry) ⌝ }
-{
-    let mut t = 0;
-    while t < out.len() {
-        out[t] = src[t];
-        t += 1;
-    }
 }

@@ -1,10 +1,10 @@
 -- Samples of one brick as floats: what the leaves make of them is what the region's places hold. Assumes nothing.
-use Prim.Native.Nat.{ℕ, _+_, _-_, _*_, _%_, _^_, _≤_, _<_}
+use Prim.Native.Nat.{ℕ, _+_, _-_, _*_, _^_, _≤_, _<_}
 use mathlib.Core.Path.{_≡_, sym, ap, _∙_}
 use mathlib.Core.Bool.{false}
 use mathlib.Core.List.{List, [], _∷_, _++_}
 use native.Mathlib.Omega.{arith}
-use native.Mathlib.Nat.{mod-lt, one-le-pow, mul-le-mul-right, add-mul, add-sub-cancel-left}
+use native.Mathlib.Nat.{mul-le-mul-right, add-mul, add-sub-cancel-left}
 use lib.Ieee.{Float, binary64, ofBits}
 use lib.ListN.{length, take, drop, length-drop}
 use lib.Seq.{drop-drop}
@@ -14,9 +14,9 @@ use Rattle.endian.proofs.Digits.{next-item}
 use Rattle.record.specs.Types.{codingOf, noType, decodeOf}
 use Rattle.record.specs.declared.Record.{Record}
 use Rattle.checks.specs.Checks.{breaks5}
-use Rattle.table.specs.Entries.{kindOf, kindAt}
+use Rattle.table.specs.Entries.{kindAt}
 use Rattle.table.specs.declared.Kind.the-variants.{Missing, Constant, Stored}
-use Rattle.table.proofs.Words.{words, kind-missing, kind-zero, kind-constant, kind-offset}
+use Rattle.table.proofs.Words.{constant-fits}
 use Rattle.cube.specs.declared.Region.{Region}
 use Rattle.cube.specs.Places.{itemBytes, kindIn, brickOf, itemNo, byteOf, rowsOf, floatOf}
 use Rattle.cube.specs.Regions.{runOf, place}
@@ -29,26 +29,6 @@ use Rattle.runs.specs.Runs.{Placed, Ready}
 use Rattle.runs.proofs.Steps.{Step, ready-fit, placed, step-fits}
 use Rattle.sampling.specs.declared.Range.{Range}
 use Rattle.sampling.specs.Samples.{rangeOf, Piece}
-
--- ---- a constant's number
-
-not-missing : (c : ℕ) → Missing ≡ Constant c → ⊥
-not-missing c e = let z : _≡_ {A = ℕ} 0 1 = cc in omega arith
-
-not-stored : (o c : ℕ) → Stored o ≡ Constant c → ⊥
-not-stored o c e = let z : _≡_ {A = ℕ} 0 1 = cc in omega arith
-
-same-constant : (a c : ℕ) → Constant a ≡ Constant c → a ≡ c
-same-constant a c e = cc
-
-constant-fits : (w v c : ℕ) → kindOf w v ≡ Constant c → c < 256 ^ w
-constant-fits w v c e =
-    let p : 0 < 256 ^ w = one-le-pow w 256 (omega arith) in
-    words v
-    (λ z. absurd (not-missing c (sym (kind-missing w v z) ∙ e)))
-    (λ z. rw (← same-constant 0 c (sym (kind-zero w v z) ∙ e)) p)
-    (λ h. rw (← same-constant (v % 256 ^ w) c (sym (kind-constant w v h) ∙ e)) (mod-lt v p))
-    (λ lo hi. absurd (not-stored v c (sym (kind-offset w v lo hi) ∙ e)))
 
 -- ---- a part of a file
 

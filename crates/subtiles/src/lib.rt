@@ -1,4 +1,5 @@
 // The version 1 brick order as a permutation: a brick moved to plain order and back, between two lent buffers.
+use endian::copy;
 use geometry::brick_bytes;
 use record::Done;
 use record::Refusal;
@@ -69,18 +70,6 @@ fn source_run(plain: bool, n1: usize, r: usize) -> usize
         tiled_run(n1, r)
     } else {
         plain_run(n1, r)
-    }
-}
-
-// The copying leaf.
-fn copy(dst: &mut [u8], src: &[u8])
-    requires { ⌜ length (now dst) ≡ length (now src) ⌝ }
-    ensures { λ _. ⌜ now (dst .exit) ≡ now (src .entry) ⌝ }
-{
-    let mut i = 0;
-    while i < src.len() {
-        dst[i] = src[i];
-        i += 1;
     }
 }
 

@@ -4,6 +4,7 @@ use mathlib.Core.Logic.{⊎-elim}
 use mathlib.Core.List.{List}
 use Prim.Native.Nat.{ℕ, _+_, _*_, _%_, _^_, _≤_, _<_}
 use native.Mathlib.Decide.{ℕ-discrete, decLe}
+use native.Mathlib.Nat.{mod-lt, one-le-pow}
 use native.Mathlib.Omega.{arith}
 use lib.ListN.{getD}
 use borrow.Author.Tests.{lt-ltb, le-ltb, le-leb, lt-leb, eq-eqb, ne-eqb}
@@ -126,3 +127,22 @@ at-stored w f t e = word-stored w (le 8 f (t + 8 * e)) (offsetOf (le 8 f (t + 8 
 pub at-below : (f : List ℕ) (t e : ℕ) → 0 < offsetAt f t e → offsetAt f t e < 2 ^ 63
 unfolding offsetAt
 at-below f t e h = kind-stored 1 (le 8 f (t + 8 * e)) _ (word-stored 1 (le 8 f (t + 8 * e)) _ refl h) .2
+
+-- a constant's number is one of its item's bytes
+missing-not : (c : ℕ) → Missing ≡ Constant c → ⊥
+missing-not c e = let z : _≡_ {A = ℕ} 0 1 = cc in omega arith
+
+not-stored : (o c : ℕ) → Stored o ≡ Constant c → ⊥
+not-stored o c e = let z : _≡_ {A = ℕ} 0 1 = cc in omega arith
+
+same-constant : (a c : ℕ) → Constant a ≡ Constant c → a ≡ c
+same-constant a c e = cc
+
+pub constant-fits : (w v c : ℕ) → kindOf w v ≡ Constant c → c < 256 ^ w
+constant-fits w v c e =
+    let p : 0 < 256 ^ w = one-le-pow w 256 (omega arith) in
+    words v
+    (λ z. absurd (missing-not c (sym (kind-missing w v z) ∙ e)))
+    (λ z. rw (← same-constant 0 c (sym (kind-zero w v z) ∙ e)) p)
+    (λ h. rw (← same-constant (v % 256 ^ w) c (sym (kind-constant w v h) ∙ e)) (mod-lt v p))
+    (λ lo hi. absurd (not-stored v c (sym (kind-offset w v lo hi) ∙ e)))

@@ -1,6 +1,6 @@
 -- Entries of the brick table: what each names, and checks 12 and 13 over all of them.
 -- A brick has b bytes, an item w bytes; the headers end at h.
-use mathlib.Core.Bool.{Bool, true, false, not, _&&_, cond}
+use mathlib.Core.Bool.{Bool, false, not, _&&_, cond}
 use mathlib.Core.List.{List}
 use Prim.Native.Nat.{ℕ, _+_, _*_, _%_, _^_}
 use lib.Dec.{eqb, leb, ltb}

@@ -1,12 +1,12 @@
 // Writes: lent bytes into the stored bricks of a region, in a raw read's order: vertical fastest and inline slowest.
 // All checks are done before the first byte is stored. The work grows with the region alone.
 use cube::Region;
+use endian::copy;
 use record::Done;
 use record::Record;
 use record::Verdict;
 use regions::write_verdict;
 use runs::Lattice;
-use runs::copy;
 use runs::index;
 use runs::item_on;
 use runs::kind_on;

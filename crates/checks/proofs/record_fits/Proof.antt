@@ -1,8 +1,6 @@
 -- `checks::record_fits` meets its contract. Assumes nothing.
-use mathlib.Core.Path.{_≡_, sym, ap, _∙_}
+use mathlib.Core.Path.{sym, _∙_}
 use native.Mathlib.Omega.{arith}
-use Rattle.record.specs.declared.Verdict.the-variants.{Taken}
-use Rattle.checks.specs.Checks.{described}
 use Rattle.checks.specs.Fits.{recordFits}
 use Rattle.checks.proofs.Described.{described-all, described-sized, described-few, described-text}
 use borrow.Author.Needs.{needs}

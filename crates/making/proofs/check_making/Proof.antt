@@ -1,5 +1,5 @@
 -- `making::check_making` meets its contract. Assumes nothing.
-use mathlib.Core.Path.{_≡_, sym, ap, _∙_}
+use mathlib.Core.Path.{_≡_, sym, _∙_}
 use Rattle.checks.specs.Checks.{described}
 use lib.ListN.{length}
 use Rattle.making.proofs.Sizes.{clamped}

@@ -1,8 +1,6 @@
 -- `making::check_rest` meets its contract. Assumes nothing.
-use mathlib.Core.Path.{_≡_, sym, ap, _∙_}
+use mathlib.Core.Path.{sym, _∙_}
 use native.Mathlib.Omega.{arith}
-use Rattle.making.specs.Plan.{planOf}
-use Rattle.making.specs.declared.Plan.{Plan}
 use Rattle.making.proofs.Sizes.{text-few, plan-length}
 use Rattle.making.proofs.Files.{rest-11, rest-18, rest-taken}
 use borrow.Author.Needs.{needs}

@@ -7,7 +7,7 @@ use Rattle.record.specs.Record.{brickBytesOf}
 use Rattle.checks.proofs.Described.{described-brick}
 use Rattle.table.specs.Entries.{kindAt}
 use Rattle.table.proofs.Range.{range-le}
-use Rattle.opening.proofs.Header.{head, head-sized, head-few, header-table, in-description, in-header, in-bricks}
+use Rattle.opening.proofs.Header.{head, head-sized, header-table, in-description, in-header, in-bricks}
 use Rattle.opening.proofs.Entries.{outside-is, overlapping-is, found-12, found-13, found-none}
 use borrow.Author.Needs.{needs}
 use Rattle.opening.proofs.check_entries.Statement.{statement}

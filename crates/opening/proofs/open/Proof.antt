@@ -1,10 +1,8 @@
 -- `opening::open` meets its contract. Assumes nothing.
-use mathlib.Core.Path.{_≡_, sym, ap, _∙_}
+use mathlib.Core.Path.{sym, ap, _∙_}
 use native.Mathlib.Omega.{arith}
-use Rattle.record.specs.Header.{versionOf, descriptionOf, textLengthOf}
+use Rattle.record.specs.Header.{versionOf, textLengthOf}
 use Rattle.record.specs.Record.{bricksOf}
-use Rattle.record.specs.declared.Verdict.the-variants.{Taken}
-use Rattle.opening.specs.Opening.{headerVerdict}
 use Rattle.opening.proofs.Header.{Head, head, head-sized, head-few, head-text}
 use Rattle.opening.proofs.Answers.{open-header, opened-refused, made-record}
 use borrow.Author.Needs.{needs}

@@ -1,13 +1,13 @@
--- `runs::copy` meets its contract. Assumes nothing.
+-- `endian::copy` meets its contract. Assumes nothing.
 use Prim.Native.Nat.{_-_}
 use mathlib.Core.Path.{_∙_}
 use native.Mathlib.Omega.{arith}
 use native.Mathlib.Numerals.{add-one}
 use lib.ListN.{length, take}
 use lib.Seq.{take-suc, take-all}
 use Rattle.endian.proofs.Parts.{Filled, filled-none, filled-store, filled-all}
-use Rattle.runs.proofs.copy.Statement.{statement}
-use Rattle.runs.proofs.copy.Tie as tie
+use Rattle.endian.proofs.copy.Statement.{statement}
+use Rattle.endian.proofs.copy.Tie as tie
 
 abbrev Inv-loop : tie.InvT-loop
 Inv-loop out₀ src t₀ out t = Filled out₀ (take t src) out t
