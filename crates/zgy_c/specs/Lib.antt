@@ -1,0 +1,2 @@
+-- The definitions that the contracts of the C calls cite.
+pub mod Boundary

@@ -1,0 +1,370 @@
+// The calls of the library for C hosts: each hands its arguments on and answers a plain struct, since no enum crosses the
+// boundary. Number 0 says that a call is taken; any other number is the refusal, and entry its second number.
+use bricks::Brick;
+use bricks::Found;
+use bricks::brick_kind;
+use bricks::brick_view_verdict;
+use cube::Region;
+use making::Fill;
+use making::Made;
+use making::make;
+use opening::Opened;
+use opening::open;
+use positions::Located;
+use positions::position;
+use reading::read_raw;
+use record::Description;
+use record::Done;
+use record::Record;
+use record::Refusal;
+use record::Verdict;
+use record::brick_bytes_in;
+use sampling::read_float;
+use subtiles::to_plain;
+use subtiles::to_subtiled;
+use writing::write;
+ghost use mathlib.Core.List.{[], _∷_};
+ghost use mathlib.Core.Path.{_≡_};
+ghost use Prim.Native.Nat.{_*_};
+ghost use lib.ListN.{length};
+ghost use Rattle.record.specs.Answers.{doneOf, numberOf, secondOf};
+ghost use Rattle.record.specs.Record.{brickBytesOf};
+ghost use Rattle.opening.specs.Opening.{openedOf};
+ghost use Rattle.bricks.specs.Bricks.{kindAnswer, viewVerdict, viewOf};
+ghost use Rattle.cube.specs.Places.{itemBytes, rowsOf};
+ghost use Rattle.cube.specs.Regions.{sizeOf, rawRows, floatRows, rawVerdict, floatVerdict, writeVerdict, written, after, over};
+ghost use Rattle.positions.specs.Positions.{positionAnswer};
+ghost use Rattle.making.specs.Making.{makeAnswer, makeBuffer};
+ghost use Rattle.subtiles.specs.Answers.{plainIn, subtiledIn, permuteAnswer, bufferAfter};
+ghost use Rattle.zgy_c.specs.Boundary.{doneC, madeC, fillC, positionC, brickC, kindC, openedC, partC, shownC, viewC, bytesC};
+
+// What opening answers; a refusal stands beside a record of zeros.
+#[repr(C)]
+pub struct ZgyOpened {
+    pub number: u32,
+    pub entry: u32,
+    pub cube: Record,
+}
+
+// What brick kind answers: 0 missing, 1 constant with its value, 2 stored with its offset.
+#[repr(C)]
+pub struct ZgyKind {
+    pub number: u32,
+    pub entry: u32,
+    pub kind: u32,
+    pub value: f64,
+    pub offset: u64,
+}
+
+// Where a brick is shown: source 0 nowhere, 1 in the file, 2 in the filler.
+#[repr(C)]
+pub struct ZgyView {
+    pub number: u32,
+    pub entry: u32,
+    pub source: u32,
+    pub offset: u64,
+    pub length: u64,
+}
+
+// What a call answers that moves bytes or floats: how many it moved.
+#[repr(C)]
+pub struct ZgyDone {
+    pub number: u32,
+    pub entry: u32,
+    pub count: u64,
+}
+
+// What position answers.
+#[repr(C)]
+pub struct ZgyPosition {
+    pub number: u32,
+    pub entry: u32,
+    pub value: f64,
+}
+
+fn done(answer: Done) -> ZgyDone
+    ensures { λ a. ⌜ a ≡ doneC answer ⌝ }
+{
+    match answer {
+        Done::Taken(count) => ZgyDone {
+            number: 0,
+            entry: 0,
+            count,
+        },
+        Done::Refused(x) => ZgyDone {
+            number: x.number,
+            entry: x.entry,
+            count: 0,
+        },
+    }
+}
+
+fn made(answer: Made) -> ZgyDone
+    ensures { λ a. ⌜ a ≡ madeC answer ⌝ }
+{
+    match answer {
+        Made::Length(count) => ZgyDone {
+            number: 0,
+            entry: 0,
+            count,
+        },
+        Made::Refused(x) => ZgyDone {
+            number: x.number,
+            entry: x.entry,
+            count: 0,
+        },
+    }
+}
+
+fn fill_of(fill: u32) -> Fill
+    ensures { λ f. ⌜ f ≡ fillC fill ⌝ }
+{
+    if fill == 0 {
+        Fill::Constant
+    } else {
+        Fill::Stored
+    }
+}
+
+fn located(answer: Located) -> ZgyPosition
+    ensures { λ a. ⌜ a ≡ positionC answer ⌝ }
+{
+    match answer {
+        Located::At(value) => ZgyPosition {
+            number: 0,
+            entry: 0,
+            value,
+        },
+        Located::Refused(x) => ZgyPosition {
+            number: x.number,
+            entry: x.entry,
+            value: 0.0,
+        },
+    }
+}
+
+fn known(brick: Brick) -> ZgyKind
+    ensures { λ a. ⌜ a ≡ brickC brick ⌝ }
+{
+    match brick {
+        Brick::Missing => ZgyKind {
+            number: 0,
+            entry: 0,
+            kind: 0,
+            value: 0.0,
+            offset: 0,
+        },
+        Brick::Constant(value) => ZgyKind {
+            number: 0,
+            entry: 0,
+            kind: 1,
+            value,
+            offset: 0,
+        },
+        Brick::Stored(offset) => ZgyKind {
+            number: 0,
+            entry: 0,
+            kind: 2,
+            value: 0.0,
+            offset,
+        },
+    }
+}
+
+fn found(answer: Found) -> ZgyKind
+    ensures { λ a. ⌜ a ≡ kindC answer ⌝ }
+{
+    match answer {
+        Found::Known(brick) => known(brick),
+        Found::Refused(x) => ZgyKind {
+            number: x.number,
+            entry: x.entry,
+            kind: 0,
+            value: 0.0,
+            offset: 0,
+        },
+    }
+}
+
+fn part(brick: Brick, length: u64) -> ZgyView
+    ensures { λ a. ⌜ a ≡ partC brick length ⌝ }
+{
+    match brick {
+        Brick::Missing => ZgyView {
+            number: 0,
+            entry: 0,
+            source: 2,
+            offset: 0,
+            length,
+        },
+        Brick::Constant(_) => ZgyView {
+            number: 0,
+            entry: 0,
+            source: 2,
+            offset: 0,
+            length,
+        },
+        Brick::Stored(offset) => ZgyView {
+            number: 0,
+            entry: 0,
+            source: 1,
+            offset,
+            length,
+        },
+    }
+}
+
+fn nowhere(x: Refusal) -> ZgyView
+    ensures { λ a. ⌜ a ≡ record { number = x .number; entry = x .entry; source = 0; offset = 0; length = 0 } ⌝ }
+{
+    ZgyView {
+        number: x.number,
+        entry: x.entry,
+        source: 0,
+        offset: 0,
+        length: 0,
+    }
+}
+
+fn shown(answer: Found, length: u64) -> ZgyView
+    ensures { λ a. ⌜ a ≡ shownC answer length ⌝ }
+{
+    match answer {
+        Found::Known(brick) => part(brick, length),
+        Found::Refused(x) => nowhere(x),
+    }
+}
+
+// The two numbers of a verdict.
+fn numbers(verdict: Verdict) -> Refusal
+    ensures { λ x. ⌜ (x .number ≡ numberOf verdict) × (x .entry ≡ secondOf verdict) ⌝ }
+{
+    match verdict {
+        Verdict::Taken => Refusal {
+            number: 0,
+            entry: 0,
+        },
+        Verdict::Refused(x) => x,
+    }
+}
+
+fn opened(answer: Opened) -> ZgyOpened
+    ensures { λ a. ⌜ a ≡ openedC answer ⌝ }
+{
+    let verdict = answer.verdict;
+    let x = numbers(verdict);
+    let cube = answer.cube;
+    ZgyOpened {
+        number: x.number,
+        entry: x.entry,
+        cube,
+    }
+}
+
+// Opens a cube.
+#[no_mangle]
+pub extern "C" fn zgy_open(file: &[u8]) -> ZgyOpened
+    ensures { λ a. ⌜ a ≡ openedC (openedOf (now (file .entry))) ⌝ }
+{
+    opened(open(file))
+}
+
+// What the brick of an entry is.
+#[no_mangle]
+pub extern "C" fn zgy_brick_kind(file: &[u8], r: Record, entry: u32) -> ZgyKind
+    ensures { λ a. ⌜ a ≡ kindC (kindAnswer r (now (file .entry)) entry) ⌝ }
+{
+    found(brick_kind(file, r, entry))
+}
+
+// Where the bytes of an entry's brick stand, in the file or in the filler.
+#[no_mangle]
+pub extern "C" fn zgy_brick_view(file: &[u8], filler: &[u8], r: Record, entry: u32) -> ZgyView
+    ensures answer { λ a. ⌜ a ≡ viewC (viewVerdict r (now (file .entry)) (now (filler .entry)) entry) (kindAnswer r (now (file .entry)) entry) (brickBytesOf (r .description)) ⌝ }
+    ensures shown { λ a. ⌜ viewOf r (now (file .entry)) (now (filler .entry)) entry ≡ bytesC a (now (file .entry)) (now (filler .entry)) ⌝ }
+{
+    let verdict = brick_view_verdict(file, filler, r, entry);
+    match verdict {
+        Verdict::Refused(x) => nowhere(x),
+        Verdict::Taken => {
+            let d = r.description;
+            shown(brick_kind(file, r, entry), brick_bytes_in(d))
+        }
+    }
+}
+
+// Reads the bytes of a region.
+#[no_mangle]
+pub extern "C" fn zgy_read_raw(out: &mut [u8], file: &[u8], r: Record, g: Region) -> ZgyDone
+    ensures answer { λ a. ⌜ a ≡ doneC (doneOf (rawVerdict r (now (file .entry)) g (length (now (out .entry)))) (sizeOf g * itemBytes r)) ⌝ }
+    ensures buffer { λ _. ⌜ now (out .exit) ≡ after (rawVerdict r (now (file .entry)) g (length (now (out .entry)))) (over (rawRows r (rowsOf r (now (file .entry))) g) (now (out .entry))) (now (out .entry)) ⌝ }
+{
+    done(read_raw(out, file, r, g))
+}
+
+// Reads the samples of a region as floats.
+#[no_mangle]
+pub extern "C" fn zgy_read_float(out: &mut [f64], file: &[u8], r: Record, g: Region) -> ZgyDone
+    ensures answer { λ a. ⌜ a ≡ doneC (doneOf (floatVerdict r (now (file .entry)) g (length (now (out .entry)))) (sizeOf g)) ⌝ }
+    ensures buffer { λ _. ⌜ now (out .exit) ≡ after (floatVerdict r (now (file .entry)) g (length (now (out .entry)))) (over (floatRows r (rowsOf r (now (file .entry))) g) (now (out .entry))) (now (out .entry)) ⌝ }
+{
+    done(read_float(out, file, r, g))
+}
+
+// Writes the bytes of a region into stored bricks.
+#[no_mangle]
+pub extern "C" fn zgy_write(file: &mut [u8], input: &[u8], r: Record, g: Region) -> ZgyDone
+    ensures answer { λ a. ⌜ a ≡ doneC (doneOf (writeVerdict r (now (file .entry)) g (length (now (input .entry)))) (sizeOf g * itemBytes r)) ⌝ }
+    ensures cube { λ _. ⌜ now (file .exit) ≡ after (writeVerdict r (now (file .entry)) g (length (now (input .entry)))) (written r g (now (input .entry)) (now (file .entry))) (now (file .entry)) ⌝ }
+{
+    done(write(file, input, r, g))
+}
+
+// Where an index stands along a dimension.
+#[no_mangle]
+pub extern "C" fn zgy_position(r: Record, dimension: u32, index: u32) -> ZgyPosition
+    ensures { λ a. ⌜ a ≡ positionC (positionAnswer r dimension index) ⌝ }
+{
+    located(position(r, dimension, index))
+}
+
+// Makes a cube at the start of a buffer.
+#[no_mangle]
+pub extern "C" fn zgy_make(out: &mut [u8], d: Description, text: &[u8], fill: u32) -> ZgyDone
+    ensures answer { λ a. ⌜ a ≡ madeC (makeAnswer d (now (text .entry)) (fillC fill) (length (now (out .entry)))) ⌝ }
+    ensures buffer { λ _. ⌜ now (out .exit) ≡ makeBuffer d (now (text .entry)) (fillC fill) (now (out .entry)) ⌝ }
+{
+    made(make(out, d, text, fill_of(fill)))
+}
+
+// A version 1 brick to plain order.
+#[no_mangle]
+pub extern "C" fn zgy_to_plain(
+    out: &mut [u8],
+    brick: &[u8],
+    side0: u32,
+    side1: u32,
+    side2: u32,
+    width: u32,
+) -> ZgyDone
+    ensures answer { λ a. ⌜ a ≡ doneC (permuteAnswer (side0 ∷ side1 ∷ side2 ∷ []) width (length (now (brick .entry))) (length (now (out .entry)))) ⌝ }
+    ensures buffer { λ _. ⌜ now (out .exit) ≡ bufferAfter (permuteAnswer (side0 ∷ side1 ∷ side2 ∷ []) width (length (now (brick .entry))) (length (now (out .entry)))) (plainIn (side0 ∷ side1 ∷ side2 ∷ []) width (now (brick .entry))) (now (out .entry)) ⌝ }
+{
+    done(to_plain(out, brick, [side0, side1, side2], width))
+}
+
+// A brick in plain order to the version 1 order.
+#[no_mangle]
+pub extern "C" fn zgy_to_subtiled(
+    out: &mut [u8],
+    brick: &[u8],
+    side0: u32,
+    side1: u32,
+    side2: u32,
+    width: u32,
+) -> ZgyDone
+    ensures answer { λ a. ⌜ a ≡ doneC (permuteAnswer (side0 ∷ side1 ∷ side2 ∷ []) width (length (now (brick .entry))) (length (now (out .entry)))) ⌝ }
+    ensures buffer { λ _. ⌜ now (out .exit) ≡ bufferAfter (permuteAnswer (side0 ∷ side1 ∷ side2 ∷ []) width (length (now (brick .entry))) (length (now (out .entry)))) (subtiledIn (side0 ∷ side1 ∷ side2 ∷ []) width (now (brick .entry))) (now (out .entry)) ⌝ }
+{
+    done(to_subtiled(out, brick, [side0, side1, side2], width))
+}
