@@ -122,6 +122,14 @@ fn place_of(file: &[u8], r: Record, n: u32) -> usize
     place_in(text_of(file, r), n)
 }
 
+// What turn n of a cube hands out, from 0 on, as places of its text section; done where it is refused or has no such string.
+pub fn turn_of(file: &[u8], r: Record, n: u32) -> Turn
+    ensures { λ t. ⌜ t ≡ turnOf (textIn r (now (file .entry))) (placeOf (textIn r (now (file .entry))) n) ⌝ }
+{
+    let text = text_of(file, r);
+    turn_at(text, place_in(text, n))
+}
+
 // A walker at the start of a text.
 fn walker<'a>(text: &'a [u8]) -> Strings<'a>
     ensures { λ w. ⌜ (w .text ≡ text .entry) × (w .at ≡ 0) ⌝ }
