@@ -32,6 +32,10 @@ peek-take f h b n l e =
     ap (λ (x : List ℕ). peek x b n) (sym (take-append-drop h f))
     ∙ peek-front (take h f) (drop h f) b n (simp length-take (omega arith))
 
+-- a part of a part
+pub peek-part : (f : List ℕ) (a m b k : ℕ) → a + m ≤ length f → b + k ≤ m → peek (peek f a m) b k ≡ peek f (a + b) k
+peek-part f a m b k h l = sym (peek-take (drop a f) m b k (simp length-drop (omega arith)) l) ∙ ap (take k) (drop-drop b a f)
+
 -- files with the same first h bytes have each of them
 pub front-byte : (f g : List ℕ) (h i : ℕ) → take h f ≡ take h g → i < h → getD f i 0 ≡ getD g i 0
 front-byte f g h i e l = sym (getD-take h f i 0 l) ∙ ap (λ (x : List ℕ). getD x i 0) e ∙ getD-take h g i 0 l

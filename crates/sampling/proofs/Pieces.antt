@@ -6,8 +6,7 @@ use mathlib.Core.List.{List, [], _∷_, _++_}
 use native.Mathlib.Omega.{arith}
 use native.Mathlib.Nat.{mul-le-mul-right, add-mul, add-sub-cancel-left}
 use lib.Ieee.{Float, binary64, ofBits}
-use lib.ListN.{length, take, drop, length-drop}
-use lib.Seq.{drop-drop}
+use lib.ListN.{length, take, drop}
 use Rattle.endian.specs.Loops.{cat}
 use Rattle.endian.specs.Bytes.{peek, le}
 use Rattle.endian.proofs.Digits.{next-item}
@@ -21,7 +20,7 @@ use Rattle.cube.specs.declared.Region.{Region}
 use Rattle.cube.specs.Places.{itemBytes, kindIn, brickOf, itemNo, byteOf, rowsOf, floatOf}
 use Rattle.cube.specs.Regions.{runOf, place}
 use Rattle.endian.proofs.Cats.{cat-same, cat-add}
-use Rattle.endian.proofs.Puts.{peek-take, length-peek}
+use Rattle.endian.proofs.Puts.{peek-part, length-peek}
 use Rattle.endian.proofs.Bytes.{le-peek}
 use Rattle.cube.proofs.Runs.{float-missing, float-constant, float-read}
 use Rattle.runs.specs.declared.Lattice.{Lattice}
@@ -39,7 +38,7 @@ part-long f a n h = rw (add-sub-cancel-left a n) (length-peek f a n h)
 le-part : (f : List ℕ) (a m b k : ℕ) → a + m ≤ length f → b + k ≤ m → le k (peek f a m) b ≡ le k f (a + b)
 le-part f a m b k h l =
     sym (le-peek k (peek f a m) b)
-    ∙ ap (λ (x : List ℕ). le k x 0) (sym (peek-take (drop a f) m b k (simp length-drop (omega arith)) l) ∙ ap (take k) (drop-drop b a f))
+    ∙ ap (λ (x : List ℕ). le k x 0) (peek-part f a m b k h l)
     ∙ le-peek k f (a + b)
 
 -- ---- a piece

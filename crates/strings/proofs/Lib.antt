@@ -3,4 +3,5 @@ pub mod Ends
 pub mod Turns
 pub mod Verdicts
 pub mod Fives
+pub mod Parts
 pub mod Held

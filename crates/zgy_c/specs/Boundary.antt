@@ -1,7 +1,7 @@
 -- What crosses the C boundary: each answer of a call as a plain struct. Number 0 says taken; what a refusal does not say is 0.
 use mathlib.Core.Bool.{cond}
 use mathlib.Core.List.{List, []}
-use Prim.Native.Nat.{ℕ}
+use Prim.Native.Nat.{ℕ, _+_, _-_}
 use lib.Dec.{eqb}
 use lib.ListN.{take}
 use lib.Ieee.{Float, binary64, ofBits}
@@ -18,6 +18,8 @@ use Rattle.bricks.specs.declared.Found.{Found}
 use Rattle.bricks.specs.declared.Found.the-variants as found
 use Rattle.positions.specs.declared.Located.{Located}
 use Rattle.positions.specs.declared.Located.the-variants as located
+use Rattle.strings.specs.declared.Turn.{Turn}
+use Rattle.strings.specs.declared.Turn.the-variants as turn
 use Rattle.making.specs.declared.Fill.{Fill}
 use Rattle.making.specs.declared.Fill.the-variants as fill
 use Rattle.making.specs.declared.Made.{Made}
@@ -26,6 +28,7 @@ use Rattle.zgy_c.specs.declared.ZgyDone.{ZgyDone}
 use Rattle.zgy_c.specs.declared.ZgyKind.{ZgyKind}
 use Rattle.zgy_c.specs.declared.ZgyOpened.{ZgyOpened}
 use Rattle.zgy_c.specs.declared.ZgyPosition.{ZgyPosition}
+use Rattle.zgy_c.specs.declared.ZgyString.{ZgyString}
 use Rattle.zgy_c.specs.declared.ZgyView.{ZgyView}
 
 -- how much a call moved
@@ -81,3 +84,13 @@ viewC (verdict.Refused x) a n = record { number = x .number; entry = x .entry; s
 -- the bytes that a view names
 abbrev pub bytesC : ZgyView → List ℕ → List ℕ → List ℕ
 bytesC v file filler = cond (eqb (v .source) 1) (peek file (v .offset) (v .length)) (cond (eqb (v .source) 2) (take (v .length) filler) [])
+
+-- where a turn's string stands in the file, whose text section starts at byte 346
+abbrev pub turnC : Turn → ZgyString
+turnC (turn.Item start end next) = record { number = 0; entry = 0; found = 1; offset = 346 + start; length = end - start }
+turnC turn.Done = record { number = 0; entry = 0; found = 0; offset = 0; length = 0 }
+
+-- where a string stands in the file, by the verdict on the strings and what the turn hands out
+abbrev pub stringC : Verdict → Turn → ZgyString
+stringC verdict.Taken a = turnC a
+stringC (verdict.Refused x) a = record { number = x .number; entry = x .entry; found = 0; offset = 0; length = 0 }

@@ -20,13 +20,17 @@ use record::Refusal;
 use record::Verdict;
 use record::brick_bytes_in;
 use sampling::read_float;
+use strings::Turn;
+use strings::strings_verdict;
+use strings::turn_of;
 use subtiles::to_plain;
 use subtiles::to_subtiled;
 use writing::write;
 ghost use mathlib.Core.List.{[], _∷_};
 ghost use mathlib.Core.Path.{_≡_};
 ghost use Prim.Native.Nat.{_*_};
-ghost use lib.ListN.{length};
+ghost use lib.ListN.{length, getD};
+ghost use Rattle.endian.specs.Bytes.{peek};
 ghost use Rattle.record.specs.Answers.{doneOf, numberOf, secondOf};
 ghost use Rattle.record.specs.Record.{brickBytesOf};
 ghost use Rattle.opening.specs.Opening.{openedOf};
@@ -34,9 +38,10 @@ ghost use Rattle.bricks.specs.Bricks.{kindAnswer, viewVerdict, viewOf};
 ghost use Rattle.cube.specs.Places.{itemBytes, rowsOf};
 ghost use Rattle.cube.specs.Regions.{sizeOf, rawRows, floatRows, rawVerdict, floatVerdict, writeVerdict, written, after, over};
 ghost use Rattle.positions.specs.Positions.{positionAnswer};
+ghost use Rattle.strings.specs.Strings.{stringsVerdict, textIn, turnOf, placeOf, stringsOf};
 ghost use Rattle.making.specs.Making.{makeAnswer, makeBuffer};
 ghost use Rattle.subtiles.specs.Answers.{plainIn, subtiledIn, permuteAnswer, bufferAfter};
-ghost use Rattle.zgy_c.specs.Boundary.{doneC, madeC, fillC, positionC, brickC, kindC, openedC, partC, shownC, viewC, bytesC};
+ghost use Rattle.zgy_c.specs.Boundary.{doneC, madeC, fillC, positionC, brickC, kindC, openedC, partC, shownC, viewC, bytesC, stringC};
 
 // What opening answers; a refusal stands beside a record of zeros.
 #[repr(C)]
@@ -80,6 +85,16 @@ pub struct ZgyPosition {
     pub number: u32,
     pub entry: u32,
     pub value: f64,
+}
+
+// Where a string stands in the file; found 0 says that there is none, as all are handed out.
+#[repr(C)]
+pub struct ZgyString {
+    pub number: u32,
+    pub entry: u32,
+    pub found: u32,
+    pub offset: u64,
+    pub length: u64,
 }
 
 fn done(answer: Done) -> ZgyDone
@@ -235,6 +250,18 @@ fn shown(answer: Found, length: u64) -> ZgyView
     }
 }
 
+fn no_string(x: Refusal) -> ZgyString
+    ensures { λ a. ⌜ a ≡ record { number = x .number; entry = x .entry; found = 0; offset = 0; length = 0 } ⌝ }
+{
+    ZgyString {
+        number: x.number,
+        entry: x.entry,
+        found: 0,
+        offset: 0,
+        length: 0,
+    }
+}
+
 // The two numbers of a verdict.
 fn numbers(verdict: Verdict) -> Refusal
     ensures { λ x. ⌜ (x .number ≡ numberOf verdict) × (x .entry ≡ secondOf verdict) ⌝ }
@@ -326,6 +353,31 @@ pub extern "C" fn zgy_position(r: Record, dimension: u32, index: u32) -> ZgyPosi
     ensures { λ a. ⌜ a ≡ positionC (positionAnswer r dimension index) ⌝ }
 {
     located(position(r, dimension, index))
+}
+
+// Where the n-th string of a cube stands in the file, from 0 on.
+#[no_mangle]
+pub extern "C" fn zgy_string(file: &[u8], r: Record, n: u32) -> ZgyString
+    ensures answer { λ a. ⌜ a ≡ stringC (stringsVerdict r (now (file .entry))) (turnOf (textIn r (now (file .entry))) (placeOf (textIn r (now (file .entry))) n)) ⌝ }
+    ensures shown { λ a. ⌜ peek (now (file .entry)) (a .offset) (a .length) ≡ getD (stringsOf (textIn r (now (file .entry)))) n [] ⌝ }
+{
+    let verdict = strings_verdict(file, r);
+    let x = numbers(verdict);
+    let turn = turn_of(file, r, n);
+    match turn {
+        Turn::Done => no_string(x),
+        Turn::Item {
+            start,
+            end,
+            next: _,
+        } => ZgyString {
+            number: 0,
+            entry: 0,
+            found: 1,
+            offset: (346 + start) as u64,
+            length: (end - start) as u64,
+        },
+    }
 }
 
 // Makes a cube at the start of a buffer.
