@@ -130,6 +130,14 @@ typedef struct ZgyView {
     uint64_t length;    /* bytes of a brick */
 } ZgyView;
 
+typedef struct ZgyString {
+    uint32_t number;
+    uint32_t entry;
+    uint32_t found;     /* 1 where there is such a string; 0 where there is none, or refused */
+    uint64_t offset;    /* from the start of the file */
+    uint64_t length;    /* bytes of the string, without the zero that ends it */
+} ZgyString;
+
 typedef struct ZgyDone {
     uint32_t number;
     uint32_t entry;
@@ -207,6 +215,16 @@ ZgyDone zgy_write(uint8_t *file, size_t file_length, const uint8_t *input, size_
 ZgyPosition zgy_position(ZgyRecord cube, uint32_t dimension, uint32_t index);
 
 /*
+ * Where a string of the text section can be read without a copy.
+ *   file, cube    the opened cube's bytes and its record
+ *   n             which string: 0 to 4
+ * Answers an offset and a length: bytes offset to offset + length of the file, followed there by a zero. Any other n is no
+ * refusal: found, offset and length are 0, as there are five strings.
+ * Refusals: 14, 11, in this order.
+ */
+ZgyString zgy_string(const uint8_t *file, size_t file_length, ZgyRecord cube, uint32_t n);
+
+/*
  * Makes a cube of version 3 at the front of a buffer.
  *   out           at least as long as the file gets
  *   description   what the cube is
@@ -242,6 +260,7 @@ ZGY_SIZE_IS(ZgyRegion, 28);
 ZGY_SIZE_IS(ZgyOpened, 232);
 ZGY_SIZE_IS(ZgyKind, 32);
 ZGY_SIZE_IS(ZgyView, 32);
+ZGY_SIZE_IS(ZgyString, 32);
 ZGY_SIZE_IS(ZgyDone, 16);
 ZGY_SIZE_IS(ZgyPosition, 16);
 #undef ZGY_SIZE_IS
