@@ -14,6 +14,7 @@ use Rattle.text.specs.Text.{poured, Pours}
 use Rattle.record.specs.Answers.{refused, andThen}
 use Rattle.record.specs.Record.{bricksOf, alphasOf, tableOf, headerOf}
 use Rattle.record.specs.declared.Description.{Description}
+use Rattle.record.specs.declared.Done.the-variants as done
 use Rattle.record.specs.declared.Refusal.{Refusal}
 use Rattle.record.specs.declared.Verdict.{Verdict}
 use Rattle.record.specs.declared.Verdict.the-variants.{Taken, Refused}
@@ -23,7 +24,6 @@ use Rattle.making.specs.Making.{zeroBytes, fileHeader, brickFields, idFi
 use Rattle.making.specs.Plan.{stepped, firstEntry, entryStep, planOf, headed, restVerdict}
 use Rattle.making.specs.declared.Fill.{Fill}
 use Rattle.making.specs.declared.Fill.the-variants.{Constant, Stored}
-use Rattle.making.specs.declared.Made.the-variants as made
 use Rattle.making.specs.declared.Plan.{Plan}
 use Rattle.endian.proofs.Cats.{cat-same, length-cat}
 use Rattle.endian.proofs.Puts.{length-lows}
@@ -133,12 +133,12 @@ poured-front out bs h =
 
 module _ (d : Description) (text : List ℕ) (fill : Fill) (out : List ℕ) where
   pub made-refused : (x : Refusal) → makeVerdict d text fill (length out) ≡ Refused x
-      → (made.Refused x ≡ makeAnswer d text fill (length out)) × (out ≡ makeBuffer d text fill out)
+      → (done.Refused x ≡ makeAnswer d text fill (length out)) × (out ≡ makeBuffer d text fill out)
   unfolding makeAnswer makeBuffer
   made-refused x e = (rw e, rw e)
 
   pub made-taken : (out′ : List ℕ) (r : ℕ) → makeVerdict d text fill (length out) ≡ Taken → Pours out 0 (madeFile d text fill) out′ r
-      → (made.Length r ≡ makeAnswer d text fill (length out)) × (out′ ≡ makeBuffer d text fill out)
+      → (done.Taken r ≡ makeAnswer d text fill (length out)) × (out′ ≡ makeBuffer d text fill out)
   unfolding makeAnswer makeBuffer
   made-taken out′ r e p =
       let f = madeFile d text fill in

@@ -9,16 +9,15 @@ use Rattle.endian.specs.Loops.{cat}
 use Rattle.endian.specs.Bytes.{lows}
 use Rattle.geometry.specs.Geometry.{ceilDiv}
 use Rattle.floats.specs.Rules.{surveySize}
-use Rattle.record.specs.Answers.{refused, andThen}
+use Rattle.record.specs.Answers.{refused, andThen, doneOf}
 use Rattle.record.specs.Record.{sizeOf, bricksOf, alphasOf, brickBytesOf, headerOf}
 use Rattle.record.specs.declared.Description.{Description}
+use Rattle.record.specs.declared.Done.{Done}
 use Rattle.record.specs.declared.Verdict.{Verdict}
 use Rattle.record.specs.declared.Verdict.the-variants.{Taken, Refused}
 use Rattle.checks.specs.Checks.{breaks11, described}
 use Rattle.making.specs.declared.Fill.{Fill}
 use Rattle.making.specs.declared.Fill.the-variants.{Constant, Stored}
-use Rattle.making.specs.declared.Made.{Made}
-use Rattle.making.specs.declared.Made.the-variants as made
 
 -- n zero bytes
 abbrev pub zeroBytes : ℕ → List ℕ
@@ -109,13 +108,9 @@ makeVerdict d text fill room =
     (cond (ltb room (madeLength d (length text) fill)) (refused 18)
     Taken))
 
-abbrev pub madeOf : Verdict → ℕ → Made
-madeOf Taken n = made.Length n
-madeOf (Refused x) n = made.Refused x
-
--- what make answers
-unfoldable pub makeAnswer : Description → List ℕ → Fill → ℕ → Made
-makeAnswer d text fill room = madeOf (makeVerdict d text fill room) (madeLength d (length text) fill)
+-- what make answers: the length of the file, or a refusal
+unfoldable pub makeAnswer : Description → List ℕ → Fill → ℕ → Done
+makeAnswer d text fill room = doneOf (makeVerdict d text fill room) (madeLength d (length text) fill)
 
 -- the buffer after it: the file and what stood after it; as it was where refused
 abbrev pub bufferIf : Verdict → List ℕ → List ℕ → List ℕ

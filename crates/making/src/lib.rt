@@ -9,7 +9,7 @@ use floats::survey_size;
 use geometry::ceil_div;
 use geometry::header_end;
 use record::Description;
-use record::Refusal;
+use record::Done;
 use record::Verdict;
 use record::brick_bytes_in;
 use record::refuse;
@@ -32,12 +32,6 @@ ghost use Rattle.making.specs.Plan.{Measured, surveySizes, stepped, plan
 pub enum Fill {
     Constant,
     Stored,
-}
-
-// What make answers: the length of the file, or a refusal.
-pub enum Made {
-    Length(u64),
-    Refused(Refusal),
 }
 
 // The numbers that a made cube follows from.
@@ -334,13 +328,13 @@ fn push_cube(out: &mut [u8], d: Description, text: &[u8], fill: Fill) -> usize
 
 // Makes a cube at the start of `out`, and answers its length; the bytes after it stay. All checks
 // come before the first byte.
-pub fn make(out: &mut [u8], d: Description, text: &[u8], fill: Fill) -> Made
+pub fn make(out: &mut [u8], d: Description, text: &[u8], fill: Fill) -> Done
     ensures { λ r. ⌜ (r ≡ makeAnswer d (now (text .entry)) fill (length (now (out .entry)))) × (now (out .exit) ≡ makeBuffer d (now (text .entry)) fill (now (out .entry))) ⌝ }
 {
     let verdict = check_making(d, text, fill, out.len() as u64);
     match verdict {
-        Verdict::Refused(refusal) => Made::Refused(refusal),
-        Verdict::Taken => Made::Length(push_cube(out, d, text, fill) as u64),
+        Verdict::Refused(refusal) => Done::Refused(refusal),
+        Verdict::Taken => Done::Taken(push_cube(out, d, text, fill) as u64),
     }
 }
 

@@ -38,7 +38,7 @@ andThen (Refused x) later = Refused x
 abbrev pub unlessFound : ℕ → ℕ → ℕ → Verdict → Verdict
 unlessFound n e m later = cond (ltb e m) (refusedAt n e) later
 
--- the answer of a call that moves n bytes or floats where it is taken
+-- the answer of a call that moves or makes n bytes or floats where it is taken
 abbrev pub doneOf : Verdict → ℕ → Done
 doneOf Taken n = done.Taken n
 doneOf (Refused x) n = done.Refused x

@@ -30,7 +30,7 @@ pub enum Verdict {
     Refused(Refusal),
 }
 
-// What a call answers that moves bytes or floats: how many it moved, or its refusal.
+// What a call answers that moves bytes or floats, or makes a cube: how many it moved or made, or its refusal.
 pub enum Done {
     Taken(u64),
     Refused(Refusal),

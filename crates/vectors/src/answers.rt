@@ -26,7 +26,6 @@ use bricks::brick_view;
 use bricks::brick_view_verdict;
 use cube::Region;
 use making::Fill;
-use making::Made;
 use making::make;
 use positions::Located;
 use positions::position;
@@ -212,14 +211,14 @@ fn fill_of(n: u32) -> Fill {
 }
 
 // The answer of make, and how many bytes it says are the cube's.
-fn say_made(made: Made) -> usize {
+fn say_made(made: Done) -> usize {
     match made {
-        Made::Length(n) => {
+        Done::Taken(n) => {
             say(b" length");
             say_number(n);
             n as usize
         }
-        Made::Refused(refusal) => {
+        Done::Refused(refusal) => {
             say_refusal(refusal);
             0
         }

@@ -22,8 +22,6 @@ use Rattle.strings.specs.declared.Turn.{Turn}
 use Rattle.strings.specs.declared.Turn.the-variants as turn
 use Rattle.making.specs.declared.Fill.{Fill}
 use Rattle.making.specs.declared.Fill.the-variants as fill
-use Rattle.making.specs.declared.Made.{Made}
-use Rattle.making.specs.declared.Made.the-variants as made
 use Rattle.zgy_c.specs.declared.ZgyDone.{ZgyDone}
 use Rattle.zgy_c.specs.declared.ZgyKind.{ZgyKind}
 use Rattle.zgy_c.specs.declared.ZgyOpened.{ZgyOpened}
@@ -31,15 +29,10 @@ use Rattle.zgy_c.specs.declared.ZgyPosition.{ZgyPosition}
 use Rattle.zgy_c.specs.declared.ZgyString.{ZgyString}
 use Rattle.zgy_c.specs.declared.ZgyView.{ZgyView}
 
--- how much a call moved
+-- how much a call moved, or made
 abbrev pub doneC : Done → ZgyDone
 doneC (done.Taken n) = record { number = 0; entry = 0; count = n }
 doneC (done.Refused x) = record { number = x .number; entry = x .entry; count = 0 }
-
--- the length of a made cube
-abbrev pub madeC : Made → ZgyDone
-madeC (made.Length n) = record { number = 0; entry = 0; count = n }
-madeC (made.Refused x) = record { number = x .number; entry = x .entry; count = 0 }
 
 -- how bricks are made: 0 is constant, any other number stored
 abbrev pub fillC : ℕ → Fill

@@ -6,7 +6,6 @@ use bricks::brick_kind;
 use bricks::brick_view_verdict;
 use cube::Region;
 use making::Fill;
-use making::Made;
 use making::make;
 use opening::Opened;
 use opening::open;
@@ -41,7 +40,7 @@ ghost use Rattle.positions.specs.Positions.{positionAnswer};
 ghost use Rattle.strings.specs.Strings.{stringsVerdict, textIn, turnOf, placeOf, stringsOf};
 ghost use Rattle.making.specs.Making.{makeAnswer, makeBuffer};
 ghost use Rattle.subtiles.specs.Answers.{plainIn, subtiledIn, permuteAnswer, bufferAfter};
-ghost use Rattle.zgy_c.specs.Boundary.{doneC, madeC, fillC, positionC, brickC, kindC, openedC, partC, shownC, viewC, bytesC, stringC};
+ghost use Rattle.zgy_c.specs.Boundary.{doneC, fillC, positionC, brickC, kindC, openedC, partC, shownC, viewC, bytesC, stringC};
 
 // What opening answers; a refusal stands beside a record of zeros.
 #[repr(C)]
@@ -71,7 +70,7 @@ pub struct ZgyView {
     pub length: u64,
 }
 
-// What a call answers that moves bytes or floats: how many it moved.
+// What a call answers that moves bytes or floats, or makes a cube: how many it moved or made.
 #[repr(C)]
 pub struct ZgyDone {
     pub number: u32,
@@ -107,23 +106,6 @@ fn done(answer: Done) -> ZgyDone
             count,
         },
         Done::Refused(x) => ZgyDone {
-            number: x.number,
-            entry: x.entry,
-            count: 0,
-        },
-    }
-}
-
-fn made(answer: Made) -> ZgyDone
-    ensures { λ a. ⌜ a ≡ madeC answer ⌝ }
-{
-    match answer {
-        Made::Length(count) => ZgyDone {
-            number: 0,
-            entry: 0,
-            count,
-        },
-        Made::Refused(x) => ZgyDone {
             number: x.number,
             entry: x.entry,
             count: 0,
@@ -279,11 +261,11 @@ fn opened(answer: Opened) -> ZgyOpened
     ensures { λ a. ⌜ a ≡ openedC answer ⌝ }
 {
     let verdict = answer.verdict;
-    let x = numbers(verdict);
+    let refusal = numbers(verdict);
     let cube = answer.cube;
     ZgyOpened {
-        number: x.number,
-        entry: x.entry,
+        number: refusal.number,
+        entry: refusal.entry,
         cube,
     }
 }
@@ -383,10 +365,10 @@ pub extern "C" fn zgy_string(file: &[u8], r: Record, n: u32) -> ZgyString
 // Makes a cube at the start of a buffer.
 #[no_mangle]
 pub extern "C" fn zgy_make(out: &mut [u8], d: Description, text: &[u8], fill: u32) -> ZgyDone
-    ensures answer { λ a. ⌜ a ≡ madeC (makeAnswer d (now (text .entry)) (fillC fill) (length (now (out .entry)))) ⌝ }
+    ensures answer { λ a. ⌜ a ≡ doneC (makeAnswer d (now (text .entry)) (fillC fill) (length (now (out .entry)))) ⌝ }
     ensures buffer { λ _. ⌜ now (out .exit) ≡ makeBuffer d (now (text .entry)) (fillC fill) (now (out .entry)) ⌝ }
 {
-    made(make(out, d, text, fill_of(fill)))
+    done(make(out, d, text, fill_of(fill)))
 }
 
 // A version 1 brick to plain order.

@@ -10,8 +10,8 @@ fill-of-requires c κs = search needs
 make-requires : tie.Need-make-requires
 make-requires c κs = search needs
 
-made-requires : tie.Need-made-requires
-made-requires c κs = search needs
+done-requires : tie.Need-done-requires
+done-requires c κs = search needs
 
 same-length : tie.Need-same-length
 same-length c = search needs
@@ -20,8 +20,8 @@ returns : tie.Need-returns
 returns c =
     let call = c .before .before .before .make in
     let fill = c .before .before .before .before .fill-of .ensures in
-    (made-is _ _ _ _ fill _ _ _ (c .made .ensures) (call .ensures .0), buffer-is _ _ _ _ fill _ _ (call .ensures .1))
+    (made-is _ _ _ _ fill _ _ _ (c .done .ensures) (call .ensures .0), buffer-is _ _ _ _ fill _ _ (call .ensures .1))
 
 pub zgy-make-spec : {M : Type 1} → statement M
 zgy-make-spec =
-    tie.close (tie.spec fill-of-requires make-requires made-requires same-length returns)
+    tie.close (tie.spec fill-of-requires make-requires done-requires same-length returns)
