@@ -9,14 +9,14 @@ use native.Mathlib.Omega.{arith}
 use lib.Dec.{eqb, leb}
 use lib.ListN.{getD}
 use borrow.Author.Tests.{eqb-true, leb-true, ltb-false}
-use Rattle.record.specs.Answers.{refused}
+use Rattle.record.specs.Answers.{refused, isTaken}
 use Rattle.record.specs.Types.{codingOf, itemWidth, noType, widthOf}
 use Rattle.record.specs.Record.{bricksOf, brickBytesOf, Between, Sized}
 use Rattle.record.specs.declared.Coding.{Coding}
 use Rattle.record.specs.declared.Description.{Description}
 use Rattle.record.specs.declared.Verdict.{Verdict}
 use Rattle.record.specs.declared.Verdict.the-variants.{Taken}
-use Rattle.checks.specs.Checks.{all3, sideOk, sizeOk, brickLimit, breaks4, breaks5, breaks6, breaks7, breaks8, breaks9, described}
+use Rattle.checks.specs.Checks.{all3, sideOk, sizeOk, brickLimit, breaks4, breaks5, breaks6, breaks7, breaks8, breaks9, fieldsFit, described}
 
 -- one check peeled off: it did not apply, and the later ones took the call
 pub passed : (b : Bool) (n : ℕ) (later : Verdict) → cond b (refused n) later ≡ Taken → (b ≡ false) × (later ≡ Taken)
@@ -88,6 +88,22 @@ sized d e4 e6 =
     let n = all3-each sizeOk (d .size) (not-false (all3 sizeOk (d .size)) e6) in
     record { side0 = side-range _ (s .0); side1 = side-range _ (s .1); side2 = side-range _ (s .2); size0 = size-range _ (n .0); size1 = size-range _ (n .1); size2 = size-range _ (n .2) }
 
+-- and so where none of checks 4 to 7 applies
+pub fields-sized : (d : Description) → fieldsFit d ≡ true → Sized d
+unfolding fieldsFit
+fields-sized d e = let p = go (breaks4 d) (breaks5 d) (breaks6 d) (breaks7 d) e in sized d (p .0) (p .1)
+  where
+    go : (a b c f : Bool) → not (a || b || c || f) ≡ true → (a ≡ false) × (c ≡ false)
+    go true b c f h = absurd (false≢true h)
+    go false true c f h = absurd (false≢true h)
+    go false false true f h = absurd (false≢true h)
+    go false false false f h = (refl, refl)
+
+-- a text length that check 9 lets pass
+pub text-few : (t : ℕ) → breaks9 t ≡ false → (5 ≤ t) × (t ≤ 65536)
+unfolding breaks9
+text-few t e = let q = both (leb 5 t) (leb t 65536) (not-false (leb 5 t && leb t 65536) e) in (leb-true 5 t (q .0), leb-true t 65536 (q .1))
+
 -- checks 4 to 9, none of which applies
 pub record Described (d : Description) (t : ℕ) : Type 0 where
   pub not4 : breaks4 d ≡ false
@@ -112,17 +128,41 @@ pub described-is : (d : Description) (t : ℕ) → Described d t → described d
 unfolding described
 described-is d t p = simp (p .not4, p .not5, p .not6, p .not7, p .not8, p .not9)
 
+-- checks 4 to 7, 8 and 9 of a record, each asked once, and the rest of check 14
+pub fits-as : (d : Description) (t : ℕ) (v g n : Bool)
+    → not v && isTaken (described d t) && g && n ≡ cond (v || breaks9 t) false (cond (fieldsFit d) (g && (not (breaks8 d) && n)) false)
+unfolding described fieldsFit
+fits-as d t v g n = go v (breaks4 d) (breaks5 d) (breaks6 d) (breaks7 d) (breaks8 d) (breaks9 t) g n
+  where
+    go : (v a b c d e f g n : Bool)
+        → not v && isTaken (cond a (refused 4) (cond b (refused 5) (cond c (refused 6) (cond d (refused 7) (cond e (refused 8) (cond f (refused 9) Taken)))))) && g && n
+        ≡ cond (v || f) false (cond (not (a || b || c || d)) (g && (not e && n)) false)
+    go true a b c d e f g n = refl
+    go false true b c d e f g n = elim f [ true ↦ refl | false ↦ refl ]
+    go false false true c d e f g n = elim f [ true ↦ refl | false ↦ refl ]
+    go false false false true d e f g n = elim f [ true ↦ refl | false ↦ refl ]
+    go false false false false true e f g n = elim f [ true ↦ refl | false ↦ refl ]
+    go false false false false false true true g n = refl
+    go false false false false false true false true n = refl
+    go false false false false false true false false n = refl
+    go false false false false false false true g n = refl
+    go false false false false false false false true n = refl
+    go false false false false false false false false n = refl
+
 module _ (d : Description) (t : ℕ) (p : Described d t) where
   pub described-sized : Sized d
   described-sized = sized d (p .not4) (p .not6)
+
+  pub described-sides : (sideOk (getD (d .side) 0 0) ≡ true) × (sideOk (getD (d .side) 1 0) ≡ true) × (sideOk (getD (d .side) 2 0) ≡ true)
+  unfolding breaks4
+  described-sides = all3-each sideOk (d .side) (not-false (all3 sideOk (d .side)) (p .not4))
 
   pub described-few : bricksOf d ≤ brickLimit
   unfolding breaks8
   described-few = ltb-false brickLimit (bricksOf d) (p .not8)
 
   pub described-text : (5 ≤ t) × (t ≤ 65536)
-  unfolding breaks9
-  described-text = let q = both (leb 5 t) (leb t 65536) (not-false (leb 5 t && leb t 65536) (p .not9)) in (leb-true 5 t (q .0), leb-true t 65536 (q .1))
+  described-text = text-few t (p .not9)
 
 -- a type that check 5 lets pass has items of 1, 2 or 4 bytes
 pub type-width : (k : ℕ) → noType (codingOf k) ≡ false → (widthOf k ≡ 1) ⊎ ((widthOf k ≡ 2) ⊎ (widthOf k ≡ 4))

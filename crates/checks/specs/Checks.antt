@@ -61,6 +61,10 @@ zeros s = sumTo (λ i. cond (eqb (getD s i 0) 0) 1 0) (length s)
 unfoldable pub breaks11 : List ℕ → Bool
 breaks11 s = not (eqb (zeros s) 5 && eqb (getD s (length s - 1) 0) 0)
 
+-- none of checks 4 to 7 applies
+unfoldable pub fieldsFit : Description → Bool
+fieldsFit d = not (breaks4 d || breaks5 d || breaks6 d || breaks7 d)
+
 -- checks 4 to 9 in their order, of a description and a text of t bytes
 unfoldable pub described : Description → ℕ → Verdict
 described d t =

@@ -18,9 +18,9 @@ ghost use mathlib.Core.Bool.{Bool, not, _&&_};
 ghost use Prim.Native.Nat.{_≤_, _<_};
 ghost use lib.ListN.{length};
 ghost use Rattle.floats.specs.Rules.{finiteBits};
-ghost use Rattle.record.specs.Record.{Sized, bricksOf};
+ghost use Rattle.record.specs.Record.{Sized};
 ghost use Rattle.record.specs.declared.Verdict.the-variants.{Taken};
-ghost use Rattle.checks.specs.Checks.{all3, sideOk, sizeOk, breaks2, breaks3, breaks4, breaks5, breaks6, breaks7, breaks8, breaks9, breaks11, zeros, described};
+ghost use Rattle.checks.specs.Checks.{all3, sideOk, sizeOk, breaks2, breaks3, breaks4, breaks5, breaks6, breaks7, breaks8, breaks9, breaks11, zeros, fieldsFit, described};
 ghost use Rattle.checks.specs.Fits.{same3, gridFits, numbersFit, recordFits, breaks14, breaks14With};
 
 // The most bricks that all levels may have.
@@ -179,12 +179,23 @@ fn wide(x: u32) -> u64
     x as u64
 }
 
+// Checks 4 to 7, where their order does not matter.
+fn fields_fit(d: Description) -> bool
+    ensures { λ b. ⌜ b ≡ fieldsFit d ⌝ }
+{
+    !(check4(d) | check5(d) | check6(d) | check7(d))
+}
+
+// Check 8, and the numbers that follow from the description. The levels are counted once for both.
 fn numbers_fit(r: Record) -> bool
-    requires { ⌜ Sized (r .description) × (bricksOf (r .description) ≤ 1048576) × (r .text ≤ 65536) ⌝ }
-    ensures { λ b. ⌜ b ≡ numbersFit r ⌝ }
+    requires { ⌜ Sized (r .description) × (r .text ≤ 65536) ⌝ }
+    ensures { λ b. ⌜ b ≡ not (breaks8 (r .description)) && numbersFit r ⌝ }
 {
     let d = r.description;
     let shape = shape_in(d);
+    if BRICK_LIMIT < shape.bricks {
+        return false;
+    }
     let header = header_end(wide(r.text), shape.alphas, shape.bricks);
     (r.header == header)
         & (wide(r.levels) == shape.levels)
@@ -199,14 +210,13 @@ pub fn record_fits(r: Record) -> bool
 {
     let d = r.description;
     let g = r.grid;
-    if check3(r.version) {
+    if check3(r.version) | check9(r.text) {
         return false;
     }
-    let verdict = check_description(d, r.text);
-    match verdict {
-        Verdict::Refused(_) => false,
-        Verdict::Taken => grid_fits(d, g) & numbers_fit(r),
+    if fields_fit(d) {
+        return grid_fits(d, g) & numbers_fit(r);
     }
+    false
 }
 
 // Check 14 where no file is lent.

@@ -6,3 +6,4 @@ pub mod Bytes
 pub mod Cats
 pub mod Puts
 pub mod Parts
+pub mod Blocks

@@ -36,25 +36,30 @@ module _ (a b : ℕ) (a-small : a ≤ 65536) (b-small : b ≤ 65536) where
   pub minus-is : toZ w32 (ofZ w32 (toZ w32 a -ℤ toZ w32 b)) ≡ pos a -ℤ pos b
   minus-is = toZ-ofZ w32 (toZ w32 a -ℤ toZ w32 b) minus-fits ∙ plain
 
--- ---- raw + half around 2 x half, less half
+-- ---- raw + 3 x half around 2 x half, less half
 module _ (raw half : ℕ) (some : 0 < half) (in-range : raw < 2 * half) where
-  pub turned-lt : (raw + half) % (2 * half) < 2 * half
-  turned-lt = mod-lt (raw + half) (omega arith)
+  pub turned-lt : (raw + 3 * half) % (2 * half) < 2 * half
+  turned-lt = mod-lt (raw + 3 * half) (omega arith)
 
-  low-turned : raw < half → (raw + half) % (2 * half) ≡ raw + half
-  low-turned h = mod-eq-of-lt (omega arith)
+  once : (raw + 3 * half) % (2 * half) ≡ (raw + half) % (2 * half)
+  once =
+      let less-once : raw + 3 * half - 2 * half ≡ raw + half = omega arith in
+      mod-eq-sub-mod (omega arith) ∙ ap (λ (n : ℕ). n % (2 * half)) less-once
 
-  high-turned : half ≤ raw → (raw + half) % (2 * half) ≡ raw - half
-  high-turned h = mod-eq-sub-mod (omega arith) ∙ mod-eq-of-lt (omega arith) ∙ omega arith
+  low-turned : raw < half → (raw + 3 * half) % (2 * half) ≡ raw + half
+  low-turned h = once ∙ mod-eq-of-lt (omega arith)
 
-  low-is : raw < half → pos ((raw + half) % (2 * half)) -ℤ pos half ≡ signedOf half raw
+  high-turned : half ≤ raw → (raw + 3 * half) % (2 * half) ≡ raw - half
+  high-turned h = once ∙ mod-eq-sub-mod (omega arith) ∙ mod-eq-of-lt (omega arith) ∙ omega arith
+
+  low-is : raw < half → pos ((raw + 3 * half) % (2 * half)) -ℤ pos half ≡ signedOf half raw
   low-is h =
       ap (λ (n : ℕ). pos n -ℤ pos half) (low-turned h)
       ∙ less (raw + half) half (omega arith)
       ∙ ap pos (omega arith)
       ∙ sym (ap (λ (t : Bool). cond t (pos raw) (pos raw -ℤ pos (2 * half))) (lt-ltb raw half h))
 
-  high-is : half ≤ raw → pos ((raw + half) % (2 * half)) -ℤ pos half ≡ signedOf half raw
+  high-is : half ≤ raw → pos ((raw + 3 * half) % (2 * half)) -ℤ pos half ≡ signedOf half raw
   high-is h =
       let less-half : half - (raw - half) ≡ 2 * half - raw = omega arith in
       ap (λ (n : ℕ). pos n -ℤ pos half) (high-turned h)
@@ -63,5 +68,5 @@ module _ (raw half : ℕ) (some : 0 < half) (in-range : raw < 2 * half) where
       ∙ sym (more raw (2 * half) (omega arith))
       ∙ sym (ap (λ (t : Bool). cond t (pos raw) (pos raw -ℤ pos (2 * half))) (le-ltb raw half h))
 
-  pub turned-is : pos ((raw + half) % (2 * half)) -ℤ pos half ≡ signedOf half raw
+  pub turned-is : pos ((raw + 3 * half) % (2 * half)) -ℤ pos half ≡ signedOf half raw
   turned-is = split raw half low-is high-is

@@ -72,12 +72,14 @@ fn highest(half: u32) -> i32
     (half - 1) as i32
 }
 
-// The signed number of an item, without a branch: half is 128 for int8 and 32768 for int16.
+// The signed number of an item, without a branch: half is 128 for int8 and 32768 for int16. raw + half has the same remainder,
+// but is below twice the divisor: a compiler that knows it makes a test and a difference of the remainder, where raw + 3 * half
+// leaves it the mask.
 pub fn signed_item(raw: u32, half: u32) -> i32
     requires { ⌜ (half ≤ 32768) × (0 < half) × (raw < 2 * half) ⌝ }
     ensures { λ r. ⌜ r ≡ signedOf half raw ⌝ }
 {
-    ((raw + half) % (2 * half)) as i32 - half as i32
+    ((raw + 3 * half) % (2 * half)) as i32 - half as i32
 }
 
 pub fn integer_value(raw: u32, half: u32) -> f64

@@ -1,3 +1,3 @@
--- Laws of reading: values as bytes, and the turns of a vertical run.
+-- Laws of reading: values as bytes, and what a turn reads of the rows of a box.
 pub mod Values
 pub mod Turns

@@ -1,5 +1,6 @@
 // Raw reads: the bytes of a region's samples, vertical fastest and inline slowest, into the front of a lent buffer.
-// The work grows with the region alone: one entry is looked up for each brick that a vertical run passes, and one part is copied.
+// The region is read brick by brick: one entry is looked up for each brick that it touches, and of each brick a box is copied,
+// row by row. So the work grows with the region alone.
 use cube::Region;
 use endian::copy;
 use record::Done;
@@ -7,11 +8,12 @@ use record::Record;
 use record::Verdict;
 use regions::raw_verdict;
 use runs::Lattice;
+use runs::at_once;
 use runs::index;
 use runs::item_on;
 use runs::kind_on;
 use runs::lattice_of;
-use runs::span;
+use runs::left;
 use table::Kind;
 ghost use mathlib.Core.Path.{_≡_};
 ghost use Prim.Native.Nat.{ℕ, _+_, _*_, _≤_, _<_};
@@ -21,11 +23,12 @@ ghost use Rattle.endian.specs.Bytes.{lows};
 ghost use Rattle.table.specs.Windows.{Width};
 ghost use Rattle.table.specs.declared.Kind.the-variants.{Stored};
 ghost use Rattle.record.specs.declared.Verdict.the-variants.{Taken};
-ghost use Rattle.cube.specs.Places.{itemBytes, rowsOf, rawOf};
+ghost use Rattle.cube.specs.Places.{itemBytes, rowsOf, kindIn, brickOf, itemNo};
 ghost use Rattle.record.specs.Answers.{doneOf};
 ghost use Rattle.cube.specs.Regions.{runOf, place, sizeOf, rawRows, rawVerdict, after, over};
 ghost use Rattle.runs.specs.Runs.{Ready};
-ghost use Rattle.reading.specs.Items.{itemsOf};
+ghost use Rattle.runs.specs.Boxes.{Along};
+ghost use Rattle.reading.specs.Items.{itemsOf, RawBox};
 
 // The low w bytes of a value, the lowest first.
 fn put_value(out: &mut [u8], value: u32, w: usize)
@@ -83,62 +86,226 @@ fn read_items(out: &mut [u8], file: &[u8], kind: Kind, item: usize, n: usize, w:
     }
 }
 
-// One vertical run, cut at the bricks' faces.
-fn read_run(out: &mut [u8], file: &[u8], r: Record, g: Region, q: Lattice, i: usize, j: usize)
-    requires { ⌜ Ready r (now file) g q ⌝ }
-    requires { ⌜ (i < runOf g 0) × (j < runOf g 1) × (length (now out) ≡ runOf g 2 * itemBytes r) ⌝ }
-    ensures { λ _. ⌜ now (out .exit) ≡ cat (runOf g 2) (λ k. rawOf r (rowsOf r (now (file .entry)) (place g i j k))) ⌝ }
+// The rows of a box on one inline: nj vertical runs of nk samples, from i, j, k past the region's start on, which is this item of
+// a brick of this kind.
+fn read_rows(
+    out: &mut [u8],
+    file: &[u8],
+    r: Record,
+    g: Region,
+    q: Lattice,
+    kind: Kind,
+    item: usize,
+    i: usize,
+    j: usize,
+    k: usize,
+    nj: usize,
+    nk: usize,
+)
+    requires { ⌜ Ready r (now file) g q × (length (now out) ≡ sizeOf g * itemBytes r) ⌝ }
+    requires { ⌜ (i < runOf g 0) × Along r g 1 j nj × Along r g 2 k nk ⌝ }
+    requires { ⌜ (kind ≡ kindIn r (now file) (brickOf r (place g i j k))) × (item ≡ itemNo r (place g i j k)) ⌝ }
+    ensures { λ _. ⌜ RawBox r (now (file .entry)) g i 1 j nj k nk (now (out .entry)) (now (out .exit)) ⌝ }
 {
     let w = index(q.width);
-    let n = q.count2;
-    let mut k = 0;
-    let mut a = 0;
-    while k < n {
-        let kind = kind_on(file, r, g, q, i, j, k);
-        let item = item_on(r, g, q, i, j, k);
-        let c = span(r, g, q, i, j, k, n - k);
-        let e = a + c * w;
-        read_items(&mut out[a..e], file, kind, item, c, w);
-        a = e;
-        k += c;
+    for t in 0..nj {
+        let a = ((i * q.count1 + (j + t)) * q.count2 + k) * w;
+        let e = a + nk * w;
+        read_items(&mut out[a..e], file, kind, item + t * q.side2, nk, w);
     }
 }
 
-// The runs of one inline, of `run` bytes each.
-fn read_plane(out: &mut [u8], file: &[u8], r: Record, g: Region, q: Lattice, i: usize, run: usize)
-    requires { ⌜ Ready r (now file) g q ⌝ }
-    requires { ⌜ (i < runOf g 0) × (run ≡ runOf g 2 * itemBytes r) × (length (now out) ≡ runOf g 1 * run) ⌝ }
-    ensures { λ _. ⌜ now (out .exit) ≡ cat (runOf g 1) (λ j. cat (runOf g 2) (λ k. rawOf r (rowsOf r (now (file .entry)) (place g i j k)))) ⌝ }
+// The same. Whole columns of a brick that are the region's whole columns stand one after the other in both, and are one run.
+fn read_plane(
+    out: &mut [u8],
+    file: &[u8],
+    r: Record,
+    g: Region,
+    q: Lattice,
+    kind: Kind,
+    item: usize,
+    i: usize,
+    j: usize,
+    k: usize,
+    nj: usize,
+    nk: usize,
+)
+    requires { ⌜ Ready r (now file) g q × (length (now out) ≡ sizeOf g * itemBytes r) ⌝ }
+    requires { ⌜ (i < runOf g 0) × Along r g 1 j nj × Along r g 2 k nk ⌝ }
+    requires { ⌜ (kind ≡ kindIn r (now file) (brickOf r (place g i j k))) × (item ≡ itemNo r (place g i j k)) ⌝ }
+    ensures { λ _. ⌜ RawBox r (now (file .entry)) g i 1 j nj k nk (now (out .entry)) (now (out .exit)) ⌝ }
 {
-    let n = q.count1;
-    let mut a = 0;
-    for j in 0..n {
-        let e = a + run;
-        read_run(&mut out[a..e], file, r, g, q, i, j);
-        a = e;
+    if nk == q.side2 && nk == q.count2 {
+        let w = index(q.width);
+        let n = nj * nk;
+        let a = (i * q.count1 + j) * nk * w;
+        let e = a + n * w;
+        read_items(&mut out[a..e], file, kind, item, n, w);
+    } else {
+        read_rows(out, file, r, g, q, kind, item, i, j, k, nj, nk);
     }
 }
 
-// The inlines of a region, of `plane` bytes each.
+// The inlines of a box: ni x nj x nk samples, from i, j, k past the region's start on, which is this item of a brick of this kind.
 fn read_planes(
     out: &mut [u8],
     file: &[u8],
     r: Record,
     g: Region,
     q: Lattice,
-    run: usize,
-    plane: usize,
+    kind: Kind,
+    item: usize,
+    i: usize,
+    j: usize,
+    k: usize,
+    ni: usize,
+    nj: usize,
+    nk: usize,
 )
-    requires { ⌜ Ready r (now file) g q ⌝ }
-    requires { ⌜ (run ≡ runOf g 2 * itemBytes r) × (plane ≡ runOf g 1 * run) × (length (now out) ≡ runOf g 0 * plane) ⌝ }
+    requires { ⌜ Ready r (now file) g q × (length (now out) ≡ sizeOf g * itemBytes r) ⌝ }
+    requires { ⌜ Along r g 0 i ni × Along r g 1 j nj × Along r g 2 k nk ⌝ }
+    requires { ⌜ (kind ≡ kindIn r (now file) (brickOf r (place g i j k))) × (item ≡ itemNo r (place g i j k)) ⌝ }
+    ensures { λ _. ⌜ RawBox r (now (file .entry)) g i ni j nj k nk (now (out .entry)) (now (out .exit)) ⌝ }
+{
+    let plane = q.side1 * q.side2;
+    for t in 0..ni {
+        let m = item + t * plane;
+        read_plane(out, file, r, g, q, kind, m, i + t, j, k, nj, nk);
+    }
+}
+
+// The same where each inline has one row, as in a crossline section: a loop over rows for each would cost more than the row.
+fn read_lines(
+    out: &mut [u8],
+    file: &[u8],
+    r: Record,
+    g: Region,
+    q: Lattice,
+    kind: Kind,
+    item: usize,
+    i: usize,
+    j: usize,
+    k: usize,
+    ni: usize,
+    nk: usize,
+)
+    requires { ⌜ Ready r (now file) g q × (length (now out) ≡ sizeOf g * itemBytes r) ⌝ }
+    requires { ⌜ Along r g 0 i ni × Along r g 1 j 1 × Along r g 2 k nk ⌝ }
+    requires { ⌜ (kind ≡ kindIn r (now file) (brickOf r (place g i j k))) × (item ≡ itemNo r (place g i j k)) ⌝ }
+    ensures { λ _. ⌜ RawBox r (now (file .entry)) g i ni j 1 k nk (now (out .entry)) (now (out .exit)) ⌝ }
+{
+    let w = index(q.width);
+    let plane = q.side1 * q.side2;
+    for t in 0..ni {
+        let a = (((i + t) * q.count1 + j) * q.count2 + k) * w;
+        let e = a + nk * w;
+        read_items(&mut out[a..e], file, kind, item + t * plane, nk, w);
+    }
+}
+
+// A box of one brick: ni x nj x nk samples, from i, j, k past the region's start on.
+fn read_box(
+    out: &mut [u8],
+    file: &[u8],
+    r: Record,
+    g: Region,
+    q: Lattice,
+    i: usize,
+    j: usize,
+    k: usize,
+    ni: usize,
+    nj: usize,
+    nk: usize,
+)
+    requires { ⌜ Ready r (now file) g q × (length (now out) ≡ sizeOf g * itemBytes r) ⌝ }
+    requires { ⌜ Along r g 0 i ni × Along r g 1 j nj × Along r g 2 k nk ⌝ }
+    ensures { λ _. ⌜ RawBox r (now (file .entry)) g i ni j nj k nk (now (out .entry)) (now (out .exit)) ⌝ }
+{
+    let kind = kind_on(file, r, g, q, i, j, k);
+    let item = item_on(r, g, q, i, j, k);
+    if nj == 1 {
+        read_lines(out, file, r, g, q, kind, item, i, j, k, ni, nk);
+    } else {
+        read_planes(out, file, r, g, q, kind, item, i, j, k, ni, nj, nk);
+    }
+}
+
+// The boxes of the bricks one above the other.
+fn read_boxes(
+    out: &mut [u8],
+    file: &[u8],
+    r: Record,
+    g: Region,
+    q: Lattice,
+    i: usize,
+    j: usize,
+    ni: usize,
+    nj: usize,
+)
+    requires { ⌜ Ready r (now file) g q × (length (now out) ≡ sizeOf g * itemBytes r) ⌝ }
+    requires { ⌜ Along r g 0 i ni × Along r g 1 j nj ⌝ }
+    ensures { λ _. ⌜ RawBox r (now (file .entry)) g i ni j nj 0 (runOf g 2) (now (out .entry)) (now (out .exit)) ⌝ }
+{
+    let n = q.count2;
+    let mut k = 0;
+    while k < n {
+        let nk = left(q.start2, k, q.side2, n - k);
+        read_box(out, file, r, g, q, i, j, k, ni, nj, nk);
+        k += nk;
+    }
+}
+
+// The bricks one above the other, some inlines at once.
+fn read_column(
+    out: &mut [u8],
+    file: &[u8],
+    r: Record,
+    g: Region,
+    q: Lattice,
+    i: usize,
+    j: usize,
+    ni: usize,
+    nj: usize,
+)
+    requires { ⌜ Ready r (now file) g q × (length (now out) ≡ sizeOf g * itemBytes r) ⌝ }
+    requires { ⌜ Along r g 0 i ni × Along r g 1 j nj ⌝ }
+    ensures { λ _. ⌜ RawBox r (now (file .entry)) g i ni j nj 0 (runOf g 2) (now (out .entry)) (now (out .exit)) ⌝ }
+{
+    let mut t = 0;
+    while t < ni {
+        let c = at_once(nj, ni - t);
+        read_boxes(out, file, r, g, q, i + t, j, c, nj);
+        t += c;
+    }
+}
+
+// The columns of the bricks side by side along the crosslines.
+fn read_columns(out: &mut [u8], file: &[u8], r: Record, g: Region, q: Lattice, i: usize, ni: usize)
+    requires { ⌜ Ready r (now file) g q × (length (now out) ≡ sizeOf g * itemBytes r) ⌝ }
+    requires { ⌜ Along r g 0 i ni × (0 < runOf g 2) ⌝ }
+    ensures { λ _. ⌜ RawBox r (now (file .entry)) g i ni 0 (runOf g 1) 0 (runOf g 2) (now (out .entry)) (now (out .exit)) ⌝ }
+{
+    let n = q.count1;
+    let mut j = 0;
+    while j < n {
+        let nj = left(q.start1, j, q.side1, n - j);
+        read_column(out, file, r, g, q, i, j, ni, nj);
+        j += nj;
+    }
+}
+
+// All bricks that the region touches.
+fn read_bricks(out: &mut [u8], file: &[u8], r: Record, g: Region, q: Lattice)
+    requires { ⌜ Ready r (now file) g q × (length (now out) ≡ sizeOf g * itemBytes r) ⌝ }
+    requires { ⌜ (0 < runOf g 1) × (0 < runOf g 2) ⌝ }
     ensures { λ _. ⌜ now (out .exit) ≡ rawRows r (rowsOf r (now (file .entry))) g ⌝ }
 {
     let n = q.count0;
-    let mut a = 0;
-    for i in 0..n {
-        let e = a + plane;
-        read_plane(&mut out[a..e], file, r, g, q, i, run);
-        a = e;
+    let mut i = 0;
+    while i < n {
+        let ni = left(q.start0, i, q.side0, n - i);
+        read_columns(out, file, r, g, q, i, ni);
+        i += ni;
     }
 }
 
@@ -149,10 +316,8 @@ fn read_region(out: &mut [u8], file: &[u8], r: Record, g: Region) -> usize
     ensures buffer { λ _. ⌜ now (out .exit) ≡ over (rawRows r (rowsOf r (now (file .entry))) g) (now (out .entry)) ⌝ }
 {
     let q = lattice_of(r, g);
-    let run = q.count2 * index(q.width);
-    let plane = q.count1 * run;
-    let n = q.count0 * plane;
-    read_planes(&mut out[..n], file, r, g, q, run, plane);
+    let n = q.count0 * (q.count1 * (q.count2 * index(q.width)));
+    read_bricks(&mut out[..n], file, r, g, q);
     n
 }
 

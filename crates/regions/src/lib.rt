@@ -11,7 +11,9 @@ use record::brick_bytes_in;
 use record::refuse;
 use record::refuse_at;
 use record::width_of;
+use runs::index;
 use runs::level_of;
+use runs::over;
 use table::Kind;
 use table::kind_at;
 ghost use mathlib.Core.Path.{_≡_};
@@ -21,9 +23,11 @@ ghost use lib.Dec.{leb};
 ghost use lib.ListN.{length};
 ghost use Rattle.geometry.specs.Geometry.{extent};
 ghost use Rattle.record.specs.Record.{levelsOf, Sized};
+ghost use Rattle.checks.specs.Checks.{sideOk};
 ghost use Rattle.checks.specs.Fits.{recordFits};
 ghost use Rattle.table.specs.Entries.{outOfRange};
 ghost use Rattle.table.specs.declared.Kind.the-variants.{Stored};
+ghost use Rattle.runs.specs.Runs.{Sides};
 ghost use Rattle.cube.specs.Regions.{sizeOf, inExtent, touched, badRange, find, unlessIn, regionVerdict, rawVerdict, floatVerdict, writeVerdict};
 ghost use Rattle.regions.specs.Search.{foundOf, entriesOf, fails, Readable, rowFrom, layerFrom, entriesIn, LayerBelow, Below, alongOf, stepsOf, blockOf, Passed, rest};
 
@@ -127,21 +131,21 @@ fn entries_of(r: Record) -> Entries
 
 // The bricks of this side that a run touches.
 fn bricks_along(side: u32, start: u32, count: u32) -> Along
-    requires { ⌜ (1 ≤ side) × (1 ≤ count) ⌝ }
+    requires { ⌜ (sideOk side ≡ true) × (1 ≤ count) ⌝ }
     ensures { λ a. ⌜ a ≡ alongOf side start count ⌝ }
 {
-    let s = wide(side);
-    let first = wide(start) / s;
-    let last = (wide(start) + wide(count) - 1) / s;
+    let s = index(side);
+    let first = over(index(start), s);
+    let last = over(index(start) + index(count) - 1, s);
     Along {
-        first,
-        span: last - first + 1,
+        first: first as u64,
+        span: (last - first + 1) as u64,
     }
 }
 
 // How the entries of a level are numbered.
 fn steps_of(d: Description, level: u32) -> Steps
-    requires { ⌜ Sized d × (level < levelsOf d) ⌝ }
+    requires { ⌜ Sized d × Sides d × (level < levelsOf d) ⌝ }
     ensures { λ s. ⌜ s ≡ stepsOf d level ⌝ }
 {
     let l = level_of(d, level);

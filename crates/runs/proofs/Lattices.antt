@@ -1,10 +1,12 @@
 -- The numbers of a lattice: they are those of the region's places, and none of their sums and products wraps. Assumes nothing.
-use Prim.Native.Nat.{ℕ, _+_, _-_, _*_, _/_, _%_, _≤_, _<_}
-use mathlib.Core.Path.{_≡_, sym, ap, subst, _∙_}
+use Prim.Native.Nat.{ℕ, _+_, _-_, _*_, _/_, _%_, _^_, _≤_, _<_}
+use mathlib.Core.Bool.{true}
+use mathlib.Core.Path.{_≡_, refl, sym, ap, subst, _∙_}
 use mathlib.Core.List.{List}
 use native.Mathlib.Omega.{arith}
 use native.Mathlib.Nat.{mod-lt, mul-le-mul, le-trans, lt-of-lt-of-le, le-mul-of-pos-right}
 use lib.ListN.{length}
+use lib.Count.{trailingZeros}
 use Rattle.endian.specs.Loops.{tri}
 use Rattle.geometry.specs.Geometry.{tableStart}
 use Rattle.geometry.proofs.Levels.{half-le}
@@ -12,7 +14,8 @@ use Rattle.geometry.proofs.Entries.{entry-is}
 use Rattle.record.specs.Record.{sideOf, countOf, bricksAlong, levelsOf, tableOf, headerOf, Sized}
 use Rattle.record.specs.declared.Record.{Record}
 use Rattle.record.proofs.Laws.{small, alphas-few}
-use Rattle.checks.proofs.Described.{described-sized, described-few, described-text, described-width}
+use Rattle.checks.specs.Checks.{sideOk}
+use Rattle.checks.proofs.Described.{side-each, side-range, described-sides, described-sized, described-few, described-text, described-width}
 use Rattle.checks.proofs.Records.{Fit, fits-all}
 use Rattle.table.specs.Entries.{kindAt}
 use Rattle.table.specs.Windows.{Width}
@@ -22,7 +25,17 @@ use Rattle.cube.specs.Regions.{startOf, runOf, place}
 use Rattle.cube.proofs.Places.{brick-of, brick-lt, item-lt}
 use Rattle.runs.specs.declared.Level.{Level}
 use Rattle.runs.specs.declared.Lattice.{Lattice}
-use Rattle.runs.specs.Runs.{levelOf, latticeOf, Allowed, Placed}
+use Rattle.runs.specs.Runs.{Sides, levelOf, latticeOf, Allowed, Placed}
+
+-- a side is the power of two that its zeros say
+pub side-power : (n : ℕ) → sideOk n ≡ true → (2 ^ trailingZeros 64 n ≡ n) × (trailingZeros 64 n < 64)
+unfolding trailingZeros
+side-power =
+    side-each (λ (n : ℕ). (2 ^ trailingZeros 64 n ≡ n) × (trailingZeros 64 n < 64))
+    (refl, omega arith) (refl, omega arith) (refl, omega arith) (refl, omega arith) (refl, omega arith)
+
+pub side-pos : (n : ℕ) → sideOk n ≡ true → 0 < n
+side-pos n e = omega (arith, side-range n e .low)
 
 -- a number of three digits, with its partial sums
 pub record Parts (m n a b c : ℕ) : Type 0 where
@@ -41,6 +54,9 @@ pub record Numbers (q : Lattice) (i j k : ℕ) : Type 0 where
   pub side0 : 0 < q .side0
   pub side1 : 0 < q .side1
   pub side2 : 0 < q .side2
+  pub ok0 : sideOk (q .side0) ≡ true
+  pub ok1 : sideOk (q .side1) ≡ true
+  pub ok2 : sideOk (q .side2) ≡ true
   pub at0 : q .start0 + i < 67108864
   pub at1 : q .start1 + j < 67108864
   pub at2 : q .start2 + k < 67108864
@@ -74,6 +90,7 @@ module _ (r : Record) (g : Region) (i j k : ℕ) where
     unfolding latticeOf levelOf itemNo
     numbers-of =
         let s = described-sized _ _ (ok .is-described) in
+        let o = described-sides _ _ (ok .is-described) in
         let m = small (r .description) s in
         let b = brick-of r ok (place g i j k) h in
         let p2 : 0 < sideOf (r .description) 2 = omega (arith, s .side2 .low) in
@@ -81,6 +98,9 @@ module _ (r : Record) (g : Region) (i j k : ℕ) where
           side0 = omega (arith, s .side0 .low);
           side1 = omega (arith, s .side1 .low);
           side2 = p2;
+          ok0 = o .0;
+          ok1 = o .1;
+          ok2 = o .2;
           at0 = index-small _ (bricksAlong (r .description) (g .level) 0) _ (s .side0 .high) (le-trans (half-le _ (g .level)) (m .inline)) (h .has-i);
           at1 = index-small _ (bricksAlong (r .description) (g .level) 1) _ (s .side1 .high) (le-trans (half-le _ (g .level)) (m .crossline)) (h .has-j);
           at2 = index-small _ (bricksAlong (r .description) (g .level) 2) _ (s .side2 .high) (le-trans (half-le _ (g .level)) (m .vertical)) (h .has-k);
@@ -137,6 +157,9 @@ module _ (r : Record) (g : Region) (h : Allowed r g) where
 
   pub allowed-sized : Sized (r .description)
   allowed-sized = described-sized _ _ (allowed-fit .is-described)
+
+  pub allowed-sides : Sides (r .description)
+  allowed-sides = described-sides _ _ (allowed-fit .is-described)
 
   pub allowed-level : g .level < levelsOf (r .description)
   allowed-level = rw (← allowed-fit .levels-is) (h .leveled)

@@ -4,3 +4,5 @@ pub mod Products
 pub mod Steps
 pub mod Sizes
 pub mod Answers
+pub mod Boxes
+pub mod Rows

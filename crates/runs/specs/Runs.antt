@@ -8,6 +8,7 @@ use Rattle.geometry.specs.Geometry.{levelBase}
 use Rattle.record.specs.Record.{sideOf, countOf, bricksAlong, tableOf, headerOf, brickBytesOf}
 use Rattle.record.specs.declared.Description.{Description}
 use Rattle.record.specs.declared.Record.{Record}
+use Rattle.checks.specs.Checks.{sideOk}
 use Rattle.checks.specs.Fits.{recordFits}
 use Rattle.table.specs.declared.Kind.the-variants.{Stored}
 use Rattle.cube.specs.declared.Region.{Region}
@@ -15,6 +16,10 @@ use Rattle.cube.specs.Places.{itemBytes, kindIn, brickOf, Inside}
 use Rattle.cube.specs.Regions.{startOf, runOf, place}
 use Rattle.runs.specs.declared.Level.{Level}
 use Rattle.runs.specs.declared.Lattice.{Lattice}
+
+-- the sides are the format's
+abbrev pub Sides : Description → Type 0
+Sides d = (sideOk (sideOf d 0) ≡ true) × (sideOk (sideOf d 1) ≡ true) × (sideOk (sideOf d 2) ≡ true)
 
 -- the entries before level l, and its bricks inline and crossline
 unfoldable pub levelOf : Description → ℕ → Level

@@ -1,7 +1,6 @@
 // Vertical runs: where the samples of a region lie in the bricks of its level. Raw reads, float reads and writes share this.
 // A record and a region that stand beside a lattice are what its promises are stated in; the code works with the lattice alone.
 use cube::Region;
-use geometry::ceil_div;
 use geometry::halved;
 use geometry::level_base;
 use geometry::table_start;
@@ -11,13 +10,15 @@ use record::width_of;
 use table::Kind;
 use table::kind_at;
 ghost use mathlib.Core.Path.{_≡_};
-ghost use Prim.Native.Nat.{_+_, _-_, _%_, _<_, _≤_, min};
+ghost use mathlib.Core.Bool.{true};
+ghost use Prim.Native.Nat.{_+_, _-_, _/_, _%_, _<_, _≤_, min};
 ghost use lib.ListN.{length};
 ghost use Rattle.geometry.specs.Geometry.{ceilDiv};
+ghost use Rattle.checks.specs.Checks.{sideOk};
 ghost use Rattle.record.specs.Record.{sideOf, levelsOf, Sized};
 ghost use Rattle.cube.specs.Places.{kindIn, brickOf, itemNo};
 ghost use Rattle.cube.specs.Regions.{startOf, place};
-ghost use Rattle.runs.specs.Runs.{levelOf, latticeOf, Allowed, Placed};
+ghost use Rattle.runs.specs.Runs.{Sides, levelOf, latticeOf, Allowed, Placed};
 
 // How the entries of a level are numbered: those before it, and its bricks inline and crossline.
 pub struct Level {
@@ -60,16 +61,24 @@ pub fn index(x: u32) -> usize
     x as usize
 }
 
+// A quotient by a brick's side. Sides are powers of two, so it is a shift: a division for each brick would cost more than its rows.
+pub fn over(x: usize, side: usize) -> usize
+    requires { ⌜ sideOk side ≡ true ⌝ }
+    ensures { λ n. ⌜ n ≡ x / side ⌝ }
+{
+    x >> usize::trailing_zeros(side)
+}
+
 // The bricks of level 0 in a direction.
 fn bricks_over(size: u32, side: u32) -> u64
-    requires { ⌜ 1 ≤ side ⌝ }
+    requires { ⌜ sideOk side ≡ true ⌝ }
     ensures { λ n. ⌜ n ≡ ceilDiv size side ⌝ }
 {
-    ceil_div(wide(size), wide(side))
+    over(index(size) + (index(side) - 1), index(side)) as u64
 }
 
 pub fn level_of(d: Description, level: u32) -> Level
-    requires { ⌜ Sized d × (level < levelsOf d) ⌝ }
+    requires { ⌜ Sized d × Sides d × (level < levelsOf d) ⌝ }
     ensures { λ v. ⌜ v ≡ levelOf d level ⌝ }
 {
     let size = d.size;
@@ -113,14 +122,22 @@ pub fn lattice_of(r: Record, g: Region) -> Lattice
     }
 }
 
+// What a quotient by a brick's side leaves.
+fn beyond(x: usize, side: usize) -> usize
+    requires { ⌜ sideOk side ≡ true ⌝ }
+    ensures { λ n. ⌜ n ≡ x % side ⌝ }
+{
+    x - over(x, side) * side
+}
+
 // The entry of the brick that holds a sample of the region: inline runs fastest, vertical slowest.
 fn entry_on(r: Record, g: Region, q: Lattice, i: usize, j: usize, k: usize) -> usize
     requires { ⌜ Placed r g q i j k ⌝ }
     ensures { λ e. ⌜ e ≡ brickOf r (place g i j k) ⌝ }
 {
-    let x = (q.start0 + i) / q.side0;
-    let y = (q.start1 + j) / q.side1;
-    let z = (q.start2 + k) / q.side2;
+    let x = over(q.start0 + i, q.side0);
+    let y = over(q.start1 + j, q.side1);
+    let z = over(q.start2 + k, q.side2);
     q.base + ((z * q.crossline + y) * q.inline + x)
 }
 
@@ -138,10 +155,28 @@ pub fn item_on(r: Record, g: Region, q: Lattice, i: usize, j: usize, k: usize) -
     requires { ⌜ Placed r g q i j k ⌝ }
     ensures { λ m. ⌜ m ≡ itemNo r (place g i j k) ⌝ }
 {
-    let x = (q.start0 + i) % q.side0;
-    let y = (q.start1 + j) % q.side1;
-    let z = (q.start2 + k) % q.side2;
+    let x = beyond(q.start0 + i, q.side0);
+    let y = beyond(q.start1 + j, q.side1);
+    let z = beyond(q.start2 + k, q.side2);
     (x * q.side1 + y) * q.side2 + z
+}
+
+// How many of the next n samples in a direction lie in the brick of the first, which is `at` past the region's start.
+pub fn left(start: usize, at: usize, side: usize, n: usize) -> usize
+    requires { ⌜ (sideOk side ≡ true) × (start + at < 4294967296) ⌝ }
+    ensures { λ c. ⌜ c ≡ min (side - (start + at) % side) n ⌝ }
+{
+    let rest = side - beyond(start + at, side);
+    if rest < n { rest } else { n }
+}
+
+// How many of the next n inlines of a box a read takes at once: all where they have one row each, as in a crossline section, so that
+// a brick is looked up once; else one, so that the buffer is filled row after row. Any number of them would do.
+pub fn at_once(rows: usize, n: usize) -> usize
+    requires { ⌜ 0 < n ⌝ }
+    ensures { λ c. ⌜ (0 < c) × (c ≤ n) ⌝ }
+{
+    if rows == 1 { n } else { 1 }
 }
 
 // How many of the next n samples of a vertical run lie in the brick of the first.
@@ -149,6 +184,5 @@ pub fn span(r: Record, g: Region, q: Lattice, i: usize, j: usize, k: usize, n: u
     requires { ⌜ Placed r g q i j k ⌝ }
     ensures { λ c. ⌜ c ≡ min (sideOf (r .description) 2 - (startOf g 2 + k) % sideOf (r .description) 2) n ⌝ }
 {
-    let left = q.side2 - (q.start2 + k) % q.side2;
-    if left < n { left } else { n }
+    left(q.start2, k, q.side2, n)
 }

@@ -1,3 +1,4 @@
 -- Laws of the float read.
 pub mod Pieces
+pub mod Strips
 pub mod Taken

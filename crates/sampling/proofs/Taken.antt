@@ -1,5 +1,5 @@
 -- What a taken verdict gives the read: the region's lattice, and a front of the buffer of the region's size. Assumes nothing.
-use Prim.Native.Nat.{ℕ, _*_, _≤_}
+use Prim.Native.Nat.{ℕ, _*_, _≤_, _<_}
 use mathlib.Core.Path.{_≡_, sym, ap₂, _∙_}
 use mathlib.Core.List.{List}
 use native.Mathlib.Omega.{arith}
@@ -21,18 +21,18 @@ module _ (r : Record) (f : List ℕ) (g : Region) (room : ℕ) (e : floatVerdict
   pub taken-allowed : Allowed r g
   taken-allowed = allowed r f g room (sizeOf g) passed
 
+  pub taken-runs : (0 < runOf g 1) × (0 < runOf g 2)
+  taken-runs = (omega (arith, passed .region .run1 .0), omega (arith, passed .region .run2 .0))
+
   module _ (q : Lattice) (laid : q ≡ latticeOf r g) where
     pub taken-ready : Ready r f g q
     taken-ready = ready r f g room (sizeOf g) passed q laid
 
-    pub count-is : q .count0 ≡ runOf g 0
+    count-is : q .count0 ≡ runOf g 0
     count-is = counts r f g q taken-ready .0
 
-    pub plane-is : q .count1 * q .count2 ≡ runOf g 1 * runOf g 2
-    plane-is = ap₂ _*_ (counts r f g q taken-ready .1) (counts r f g q taken-ready .2)
-
     pub whole-is : q .count0 * (q .count1 * q .count2) ≡ sizeOf g
-    whole-is = ap₂ _*_ count-is plane-is ∙ sym (mul-assoc (runOf g 0) (runOf g 1) (runOf g 2))
+    whole-is = ap₂ _*_ count-is (ap₂ _*_ (counts r f g q taken-ready .1) (counts r f g q taken-ready .2)) ∙ sym (mul-assoc (runOf g 0) (runOf g 1) (runOf g 2))
 
     pub plane-fits : q .count1 * q .count2 ≤ q .count0 * (q .count1 * q .count2)
     plane-fits = le-mul-left (q .count0) (q .count1 * q .count2) (omega (arith, passed .region .run0 .0, count-is))

@@ -1,31 +1,42 @@
--- Parts of a float read: the coding range, a run cut at the bricks' faces, and the planes of a region.
+-- Parts of a float read: the coding range, the samples of a brick, and the boxes of a region.
+use mathlib.Core.Bool.{false}
 use mathlib.Core.List.{List, [], _∷_}
-use Prim.Native.Nat.{ℕ, _+_, _%_, _<_, _≤_}
-use lib.Ieee.{Float}
+use mathlib.Core.Path.{_≡_}
+use Prim.Native.Nat.{ℕ, _+_, _*_}
+use lib.Ieee.{Float, binary64, ofBits}
 use Rattle.endian.specs.Loops.{cat}
-use Rattle.record.specs.Record.{sideOf}
+use Rattle.endian.specs.Bytes.{le}
+use Rattle.record.specs.Types.{codingOf, noType, decodeOf}
 use Rattle.record.specs.declared.Record.{Record}
+use Rattle.table.specs.declared.Kind.{Kind}
+use Rattle.table.specs.declared.Kind.the-variants.{Missing, Constant, Stored}
 use Rattle.cube.specs.declared.Region.{Region}
-use Rattle.cube.specs.Places.{rowsOf, floatOf}
-use Rattle.cube.specs.Regions.{startOf, runOf, place}
+use Rattle.cube.specs.Places.{itemBytes, rowsOf, floatOf}
+use Rattle.cube.specs.Regions.{runOf, place}
+use Rattle.runs.specs.declared.Lattice.{Lattice}
+use Rattle.runs.specs.Boxes.{Boxed}
 use Rattle.sampling.specs.declared.Range.{Range}
 
 -- the coding range of the record's grid
 abbrev pub rangeOf : Record → Range
 rangeOf r = record { min = r .grid .min; max = r .grid .max }
 
--- the n samples of the region from i, j, k past its start on lie in one brick
-pub record Piece (r : Record) (g : Region) (i j k n : ℕ) : Type 0 where
-  pub some : 0 < n
-  pub in-i : i < runOf g 0
-  pub in-j : j < runOf g 1
-  pub in-k : k + n ≤ runOf g 2
-  pub one-brick : (startOf g 2 + k) % sideOf (r .description) 2 + n ≤ sideOf (r .description) 2
+-- the type is one of the format's, and the lattice has its width
+pub record Fitting (r : Record) (q : Lattice) : Type 0 where
+  pub typed : noType (codingOf (r .description .datatype)) ≡ false
+  pub width : q .width ≡ itemBytes r
 
--- the first n samples of a vertical run
-abbrev pub runFloats : Record → List ℕ → Region → ℕ → ℕ → ℕ → List Float
-runFloats r f g i j n = cat n (λ k. floatOf r (rowsOf r f (place g i j k)) ∷ [])
+-- new is old, but that a box of the region holds its samples
+abbrev pub FloatBox : Record → List ℕ → Region → ℕ → ℕ → ℕ → ℕ → ℕ → ℕ → List Float → List Float → Type 0
+FloatBox r f g i ni j nj k nk old new =
+    Boxed 1 (runOf g 0) (runOf g 1) (runOf g 2) (λ x y z. floatOf r (rowsOf r f (place g x y z)) ∷ []) i ni j nj k nk old new
 
--- the runs of one inline
-abbrev pub planeFloats : Record → List ℕ → Region → ℕ → List Float
-planeFloats r f g i = cat (runOf g 1) (λ j. runFloats r f g i j (runOf g 2))
+-- n samples of a brick of this kind from item m on: +0.0 of a missing brick, a constant's value again and again, decoded parts of the file of a stored one
+abbrev pub floatsOf : Record → List ℕ → Kind → ℕ → ℕ → List Float
+floatsOf r f Missing m n = cat n (λ t. ofBits binary64 0 ∷ [])
+floatsOf r f (Constant v) m n = cat n (λ t. decodeOf (r .description .datatype) (r .grid .min) (r .grid .max) v ∷ [])
+floatsOf r f (Stored o) m n = cat n (λ t. decodeOf (r .description .datatype) (r .grid .min) (r .grid .max) (le (itemBytes r) f (o + (m + t) * itemBytes r)) ∷ [])
+
+-- n samples of it, each s items after the one before
+abbrev pub stripOf : Record → List ℕ → Kind → ℕ → ℕ → ℕ → List Float
+stripOf r f κ m s n = cat n (λ t. floatsOf r f κ (m + t * s) 1)

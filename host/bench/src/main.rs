@@ -10,7 +10,7 @@ mod table;
 
 use regions::Call;
 use std::process::ExitCode;
-use table::Report;
+use table::{Effort, Report};
 
 /// What the argument chooses.
 type Part = (&'static str, fn(&mut Report));
@@ -25,19 +25,19 @@ const PARTS: [Part; 6] = [
 ];
 
 fn main() -> ExitCode {
-    let wanted = std::env::args().nth(1);
     let names = PARTS.map(|(name, _)| name);
-    if wanted.as_deref().is_some_and(|wanted| !names.contains(&wanted)) {
-        eprintln!("usage: bench [{}]", names.join("|"));
+    let (short, wanted): (Vec<_>, Vec<_>) = std::env::args().skip(1).partition(|word| word == "--short");
+    if !wanted.iter().all(|wanted| names.contains(&wanted.as_str())) {
+        eprintln!("usage: bench [--short] [{}]...", names.join("|"));
         return ExitCode::from(2);
     }
     println!(
         "Times are the best of some rounds, library and others in turn, on memory touched before. Ratios are the library's time"
     );
     println!("over the other's: below 1 the library is faster. The last column marks a goal that is missed.");
-    let mut report = Report::default();
+    let mut report = Report::new(if short.is_empty() { Effort::WHOLE } else { Effort::SHORT });
     for (name, part) in PARTS {
-        if wanted.as_deref().is_none_or(|wanted| wanted == name) {
+        if wanted.is_empty() || wanted.iter().any(|wanted| wanted == name) {
             part(&mut report);
         }
     }

@@ -3,8 +3,18 @@
 
 use std::time::Instant;
 
-const ROUNDS: usize = 25;
-const ROUND_NS: f64 = 1e6;
+/// How long is measured: rounds of a row, and nanoseconds of a round.
+#[derive(Clone, Copy)]
+pub struct Effort {
+    rounds: usize,
+    round_ns: f64,
+}
+
+impl Effort {
+    pub const WHOLE: Effort = Effort { rounds: 25, round_ns: 1e6 };
+    /// Enough to compare the results, not to believe the times.
+    pub const SHORT: Effort = Effort { rounds: 2, round_ns: 1e4 };
+}
 
 /// A job. All jobs of a row work on the same state, so that they touch the same memory, which is warm after the first round.
 pub type Job<'a, S> = &'a dyn Fn(&mut S);
@@ -39,8 +49,8 @@ pub struct Times {
 }
 
 /// What all tables together found.
-#[derive(Default)]
 pub struct Report {
+    effort: Effort,
     title: String,
     unequal: Vec<String>,
     missed: usize,
@@ -56,16 +66,16 @@ struct Rounds {
 
 impl Rounds {
     /// Finds how many calls make up a round.
-    fn calibrate<S>(job: Job<S>, state: &mut S) -> Self {
+    fn calibrate<S>(job: Job<S>, state: &mut S, effort: Effort) -> Self {
         let mut calls = 1;
         while calls < 1 << 24 {
             let ns = time(job, state, calls) * calls as f64;
-            if ns >= ROUND_NS / 2.0 {
+            if ns >= effort.round_ns / 2.0 {
                 break;
             }
             calls *= 2;
         }
-        Rounds { calls, times: Vec::with_capacity(ROUNDS) }
+        Rounds { calls, times: Vec::with_capacity(effort.rounds) }
     }
 
     fn run<S>(&mut self, job: Job<S>, state: &mut S) {
@@ -93,6 +103,10 @@ fn time<S>(job: Job<S>, state: &mut S, calls: usize) -> f64 {
 }
 
 impl Report {
+    pub fn new(effort: Effort) -> Self {
+        Report { effort, title: String::new(), unequal: Vec::new(), missed: 0, rows: 0, noise: Vec::new() }
+    }
+
     /// Starts a table, of times against something's.
     pub fn title(&mut self, title: &str, against: &str) {
         self.title = title.to_string();
@@ -108,10 +122,11 @@ impl Report {
             self.unequal.push(format!("{}: {}", self.title, row.name));
             return None;
         }
-        let mut library = Rounds::calibrate(row.library, state);
-        let mut plain: Vec<_> = row.plain.iter().map(|job| Rounds::calibrate(*job, state)).collect();
-        let mut memcpy = row.memcpy.map(|job| (job, Rounds::calibrate(job, state)));
-        for _ in 0..ROUNDS {
+        let effort = self.effort;
+        let mut library = Rounds::calibrate(row.library, state, effort);
+        let mut plain: Vec<_> = row.plain.iter().map(|job| Rounds::calibrate(*job, state, effort)).collect();
+        let mut memcpy = row.memcpy.map(|job| (job, Rounds::calibrate(job, state, effort)));
+        for _ in 0..effort.rounds {
             library.run(row.library, state);
             plain.iter_mut().zip(row.plain).for_each(|(rounds, job)| rounds.run(*job, state));
             if let Some((job, rounds)) = &mut memcpy {
@@ -163,7 +178,7 @@ impl Report {
         let mut noise = self.noise;
         noise.sort_unstable_by(f64::total_cmp);
         let middle = noise.get(noise.len() / 2).copied().unwrap_or(0.0) * 100.0;
-        println!("\n{} rows, best of {ROUNDS} rounds each; the median round is {middle:.0}% above the best.", self.rows);
+        println!("\n{} rows, best of {} rounds each; the median round is {middle:.0}% above the best.", self.rows, self.effort.rounds);
         println!("Rows and goals missed: {}.", self.missed);
         for name in &self.unequal {
             println!("UNEQUAL RESULTS: {name}");

@@ -1,83 +1,110 @@
 -- `reading::read_plane` meets its contract. Assumes nothing.
-use Prim.Native.Nat.{_-_, _<_}
-use mathlib.Core.Path.{_≡_}
+use Prim.Native.Nat.{_*_}
+use mathlib.Core.Path.{_≡_, refl, _∙_}
 use native.Mathlib.Omega.{arith}
-use Rattle.endian.specs.Loops.{cat}
-use Rattle.cube.specs.Places.{rowsOf, rawOf}
-use Rattle.cube.specs.Regions.{runOf, place}
-use Rattle.endian.proofs.Parts.{Turns, turns-none, turns-room, turns-more, turns-all}
-use Rattle.runs.proofs.Steps.{counts}
+use lib.ListN.{length}
+use borrow.Author.Needs.{needs}
+use borrow.Author.Tests.{eqb-true}
+use Rattle.cube.specs.Places.{itemBytes}
+use Rattle.runs.proofs.Steps.{ready-width}
+use Rattle.runs.proofs.Rows.{Rows}
+use Rattle.reading.proofs.Turns.{Bytes, columns-asks, columns-at, columns-box}
 use Rattle.reading.proofs.read_plane.Statement.{statement}
 use Rattle.reading.proofs.read_plane.Tie as tie
 
-abbrev Inv-loop : tie.InvT-loop
-Inv-loop out₀ file r g q i run n a₀ j₀ out a j = Turns out₀ (λ x. cat (runOf g 2) (λ k. rawOf r (rowsOf r file (place g i x k)))) (runOf g 1) run out a j
+rows : (c : tie.Start) → let a = c .args in Rows (a .r) (a .file .now) (a .g) (a .q) (a .kind) (a .item) (a .i) (a .j) (a .k) (a .nj) (a .nk)
+rows c = let p = c .pre in record { ready = p .0 .0; in-i = p .1 .0 .0; in-j = p .1 .0 .1; in-k = p .1 .0 .2; kind = p .1 .1 .0; item = p .1 .1 .1 }
 
-abbrev μ-loop : tie.MeasureT-loop
-μ-loop out₀ file r g q i run n a₀ j₀ out a j = n - j
+abbrev start : tie.After-index → tie.Start
+start c = c .before .before .before .before .before .before .before
 
-abbrev start : tie.At-loop Inv-loop μ-loop → tie.Start Inv-loop μ-loop
-start c = c .before .before .before
+width : (c : tie.After-index) → c .index .result ≡ itemBytes (start c .args .r)
+width c = c .index .ensures .0 ∙ ready-width _ _ _ _ (start c .pre .0 .0)
 
-count : (c : tie.At-loop Inv-loop μ-loop) → start c .args .q .count1 ≡ runOf (start c .args .g) 1
-count c = let s = start c in counts (s .args .r) (s .args .file .now) (s .args .g) (s .args .q) (s .pre .0) .1
+-- the columns are the brick's and the region's
+whole : (c : tie.After-index) → start c .args .nk ≡ start c .args .q .side2
+whole c = c .before .before .before .if1 .taken
 
-here : (c : tie.In-loop Inv-loop μ-loop) → c .before .loop .j < runOf (start (c .before) .args .g) 1
-here c = omega (arith, count (c .before), c .loop-test .taken)
+all : (c : tie.After-index) → start c .args .nk ≡ start c .args .q .count2
+all c = eqb-true _ _ (c .before .if2 .taken)
 
-loop-holds : tie.Need-loop-holds Inv-loop μ-loop
-loop-holds c = turns-none _ _ _ _ (c .before .before .pre .1 .2)
+bytes : (c : tie.After-index) → let a = start c .args in Bytes (a .q .count1) (a .nk) (a .i) (a .j) 0 (a .nj * a .nk) (c .index .result) (length (a .out .now))
+bytes c = columns-at (rows (start c)) (width c) (whole c) (all c) _ (start c .pre .0 .1)
 
-add-e : tie.Need-add-e Inv-loop μ-loop
-add-e c = omega (arith, turns-room (c .before .loop .inv) (here c))
+index-requires : tie.Need-index-requires
+index-requires c κs = search needs
 
-sub-read-run : tie.Need-sub-read-run Inv-loop μ-loop
-sub-read-run c = omega arith
+mul-n : tie.Need-mul-n
+mul-n c = omega (arith, bytes c)
 
-part-read-run-start : tie.Need-part-read-run-start Inv-loop μ-loop
-part-read-run-start c = omega arith
+mul-a : tie.Need-mul-a
+mul-a c = omega (arith, bytes (c .before))
 
-part-read-run-end : tie.Need-part-read-run-end Inv-loop μ-loop
-part-read-run-end c = omega (arith, turns-room (c .before .loop .inv) (here c))
+add-a : tie.Need-add-a
+add-a c = omega (arith, bytes (c .before))
 
-read-run-requires : tie.Need-read-run-requires Inv-loop μ-loop
-read-run-requires c κs =
-    let l = c .before in
-    let p = start (l .before) .pre in
-    (p .0, (p .1 .0, here l, omega (arith, p .1 .1)))
+mul-a-2 : tie.Need-mul-a-2
+mul-a-2 c = omega (arith, bytes (c .before))
 
-add-j : tie.Need-add-j Inv-loop μ-loop
-add-j c = let l = c .before .before .before .before in omega (arith, here l, start (l .before) .pre .0 .few)
+mul-a-3 : tie.Need-mul-a-3
+mul-a-3 c = omega (arith, bytes (c .before))
 
-loop-less : tie.Need-loop-less Inv-loop μ-loop
-loop-less c = omega arith
+mul-e : tie.Need-mul-e
+mul-e c = omega (arith, bytes (c .before))
 
-loop-again : tie.Need-loop-again Inv-loop μ-loop
-loop-again c =
-    let l = c .before .before .before .before in
-    let call = c .before .before .read-run in
-    turns-more (l .before .loop .inv) (here l) (call .kept .0) (call .ensures)
+add-e : tie.Need-add-e
+add-e c = omega (arith, bytes (c .before))
 
-same-length : tie.Need-same-length Inv-loop μ-loop
-same-length c = omega arith
+sub-read-items : tie.Need-sub-read-items
+sub-read-items c = search needs
 
-returns : tie.Need-returns Inv-loop μ-loop
-returns c = turns-all (c .before .loop .inv) (omega (arith, count (c .before), c .loop-test .left))
+part-read-items-start : tie.Need-part-read-items-start
+part-read-items-start c = search needs
+
+part-read-items-end : tie.Need-part-read-items-end
+part-read-items-end c = omega (arith, bytes (c .before))
+
+read-items-requires : tie.Need-read-items-requires
+read-items-requires c κs =
+    let x = c .before .before in
+    let f = columns-asks (rows (start x)) (width x) (whole x) (all x) in
+    ((f .0, omega arith), f .1)
+
+read-rows-requires : tie.Need-read-rows-requires
+read-rows-requires c κs = search needs
+
+same-length : tie.Need-same-length
+same-length c = search needs
+
+returns : tie.Need-returns
+returns c =
+    let x = c .before .before .before .before .before in
+    columns-box (rows (start x)) (width x) (whole x) (all x) _ _ _ _ (start x .pre .0 .1) refl refl (c .before .before .read-items .ensures)
+
+same-length-2 : tie.Need-same-length-2
+same-length-2 c = search needs
+
+returns-2 : tie.Need-returns-2
+returns-2 c = search needs
 
 pub read-plane-spec : {M : Type 1} → statement M
 read-plane-spec =
     tie.close
     (tie.spec
-    Inv-loop
-    μ-loop
-    loop-holds
+    index-requires
+    mul-n
+    mul-a
+    add-a
+    mul-a-2
+    mul-a-3
+    mul-e
     add-e
-    sub-read-run
-    part-read-run-start
-    part-read-run-end
-    read-run-requires
-    add-j
-    loop-less
-    loop-again
+    sub-read-items
+    part-read-items-start
+    part-read-items-end
+    read-items-requires
+    read-rows-requires
     same-length
-    returns)
+    returns
+    same-length-2
+    returns-2)

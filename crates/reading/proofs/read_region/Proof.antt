@@ -33,27 +33,28 @@ lattice-of-requires c κs = let a = c .before .before .args in allowed (a .r) (a
 index-requires : tie.Need-index-requires
 index-requires c κs = search needs
 
-mul-run : tie.Need-mul-run
-mul-run c = omega (arith, products (c .before))
-
-mul-plane : tie.Need-mul-plane
-mul-plane c = omega (arith, products (c .before .before))
-
 mul-n : tie.Need-mul-n
-mul-n c = omega (arith, products (c .before .before .before))
+mul-n c = omega (arith, products (c .before))
 
-slice-relend-prefix-read-planes : tie.Need-slice-relend-prefix-read-planes
-slice-relend-prefix-read-planes c = omega (arith, products (c .before .before .before))
+mul-n-2 : tie.Need-mul-n-2
+mul-n-2 c = omega (arith, products (c .before .before))
 
-slice-aggregate-read-planes : tie.Need-slice-aggregate-read-planes
-slice-aggregate-read-planes c = sym (length-take-le _ _ (products (c .before .before .before .before) .whole-in))
+mul-n-3 : tie.Need-mul-n-3
+mul-n-3 c = omega (arith, products (c .before .before .before))
 
-read-planes-requires : tie.Need-read-planes-requires
-read-planes-requires c κs =
+slice-relend-prefix-read-bricks : tie.Need-slice-relend-prefix-read-bricks
+slice-relend-prefix-read-bricks c = omega (arith, products (c .before .before .before))
+
+slice-aggregate-read-bricks : tie.Need-slice-aggregate-read-bricks
+slice-aggregate-read-bricks c = sym (length-take-le _ _ (products (c .before .before .before .before) .whole-in))
+
+read-bricks-requires : tie.Need-read-bricks-requires
+read-bricks-requires c κs =
     let x = c .before .before .before .before in
     let a = start x .args in
+    let h = passed (start x) in
     let p = products x in
-    (ready (a .r) (a .file .now) (a .g) _ _ (passed (start x)) _ (x .before .lattice-of .ensures), (p .run, p .plane, length-take-le _ _ (p .whole-in) ∙ p .whole))
+    ((ready (a .r) (a .file .now) (a .g) _ _ h _ (x .before .lattice-of .ensures), length-take-le _ _ (p .whole-in) ∙ p .size), (omega (arith, h .region .run1), omega (arith, h .region .run2)))
 
 same-length : tie.Need-same-length
 same-length c = search needs
@@ -63,7 +64,7 @@ returns c =
     let x = c .before .before .before .before .before .before .before in
     let a = start x .args in
     let p = products x in
-    (p .size, front-over _ _ _ _ (c .before .before .read-planes .ensures) (passed-length (a .r) (a .file .now) (a .g) _ _ (passed (start x)) ∙ sym (p .size)))
+    (p .size, front-over _ _ _ _ (c .before .before .read-bricks .ensures) (passed-length (a .r) (a .file .now) (a .g) _ _ (passed (start x)) ∙ sym (p .size)))
 
 pub read-region-spec : {M : Type 1} → statement M
 read-region-spec =
@@ -71,11 +72,11 @@ read-region-spec =
     (tie.spec
     lattice-of-requires
     index-requires
-    mul-run
-    mul-plane
     mul-n
-    slice-relend-prefix-read-planes
-    slice-aggregate-read-planes
-    read-planes-requires
+    mul-n-2
+    mul-n-3
+    slice-relend-prefix-read-bricks
+    slice-aggregate-read-bricks
+    read-bricks-requires
     same-length
     returns)

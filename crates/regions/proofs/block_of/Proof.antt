@@ -1,5 +1,5 @@
 -- `regions::block_of` meets its contract. Assumes nothing.
-use native.Mathlib.Omega.{arith}
+use Rattle.checks.proofs.Described.{described-sides}
 use Rattle.regions.proofs.Blocks.{fit-of, sized-of, runs-of, first-small, block-made}
 use borrow.Author.Needs.{needs}
 use Rattle.regions.proofs.block_of.Statement.{statement}
@@ -8,7 +8,7 @@ use Rattle.regions.proofs.block_of.Tie as tie
 steps-of-requires : tie.Need-steps-of-requires
 steps-of-requires c κs =
     let s = c .before .before .before .before in
-    (sized-of (s .args .r) (s .args .g) (s .pre), rw (← fit-of (s .args .r) (s .args .g) (s .pre) .levels-is) (s .pre .leveled))
+    (sized-of (s .args .r) (s .args .g) (s .pre), described-sides _ _ (fit-of (s .args .r) (s .args .g) (s .pre) .is-described), rw (← fit-of (s .args .r) (s .args .g) (s .pre) .levels-is) (s .pre .leveled))
 
 array-read-bricks-along : tie.Need-array-read-bricks-along
 array-read-bricks-along c = search needs
@@ -22,7 +22,7 @@ array-read-bricks-along-3 c = search needs
 bricks-along-requires : tie.Need-bricks-along-requires
 bricks-along-requires c κs =
     let s = c .before .before .before .before .before in
-    (omega (arith, sized-of (s .args .r) (s .args .g) (s .pre) .side0 .low), runs-of (s .args .r) (s .args .g) (s .pre) .inline .some)
+    (described-sides _ _ (fit-of (s .args .r) (s .args .g) (s .pre) .is-described) .0, runs-of (s .args .r) (s .args .g) (s .pre) .inline .some)
 
 array-read-bricks-along-4 : tie.Need-array-read-bricks-along-4
 array-read-bricks-along-4 c = search needs
@@ -36,7 +36,7 @@ array-read-bricks-along-6 c = search needs
 bricks-along-requires-2 : tie.Need-bricks-along-requires-2
 bricks-along-requires-2 c κs =
     let s = c .before .before .before .before .before .before in
-    (omega (arith, sized-of (s .args .r) (s .args .g) (s .pre) .side1 .low), runs-of (s .args .r) (s .args .g) (s .pre) .crossline .some)
+    (described-sides _ _ (fit-of (s .args .r) (s .args .g) (s .pre) .is-described) .1, runs-of (s .args .r) (s .args .g) (s .pre) .crossline .some)
 
 array-read-bricks-along-7 : tie.Need-array-read-bricks-along-7
 array-read-bricks-along-7 c = search needs
@@ -50,7 +50,7 @@ array-read-bricks-along-9 c = search needs
 bricks-along-requires-3 : tie.Need-bricks-along-requires-3
 bricks-along-requires-3 c κs =
     let s = c .before .before .before .before .before .before .before in
-    (omega (arith, sized-of (s .args .r) (s .args .g) (s .pre) .side2 .low), runs-of (s .args .r) (s .args .g) (s .pre) .vertical .some)
+    (described-sides _ _ (fit-of (s .args .r) (s .args .g) (s .pre) .is-described) .2, runs-of (s .args .r) (s .args .g) (s .pre) .vertical .some)
 
 entry-at-requires : tie.Need-entry-at-requires
 entry-at-requires c κs =

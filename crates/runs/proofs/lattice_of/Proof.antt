@@ -1,6 +1,6 @@
 -- `runs::lattice_of` meets its contract. Assumes nothing.
 use native.Mathlib.Omega.{arith}
-use Rattle.runs.proofs.Lattices.{allowed-sized, allowed-level, table-small, table-made, lattice-made}
+use Rattle.runs.proofs.Lattices.{allowed-sized, allowed-sides, allowed-level, table-small, table-made, lattice-made}
 use borrow.Author.Needs.{needs}
 use Rattle.runs.proofs.lattice_of.Statement.{statement}
 use Rattle.runs.proofs.lattice_of.Tie as tie
@@ -8,7 +8,7 @@ use Rattle.runs.proofs.lattice_of.Tie as tie
 level-of-requires : tie.Need-level-of-requires
 level-of-requires c κs =
     let s = c .before .before .before .before in
-    (allowed-sized (s .args .r) (s .args .g) (s .pre), allowed-level (s .args .r) (s .args .g) (s .pre))
+    (allowed-sized (s .args .r) (s .args .g) (s .pre), allowed-sides (s .args .r) (s .args .g) (s .pre), allowed-level (s .args .r) (s .args .g) (s .pre))
 
 wide-requires : tie.Need-wide-requires
 wide-requires c κs = search needs

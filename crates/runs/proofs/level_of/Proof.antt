@@ -40,7 +40,7 @@ level-base-requires : tie.Need-level-base-requires
 unfolding levelsOf
 level-base-requires c κs =
     let s = c .before .before .before .before .before .before in
-    rw (c .before .before .bricks-over .ensures, c .before .bricks-over2 .ensures, c .bricks-over3 .ensures, c .before .before .before .wide .ensures .0) (small (s .args .d) (s .pre .0), s .pre .1)
+    rw (c .before .before .bricks-over .ensures, c .before .bricks-over2 .ensures, c .bricks-over3 .ensures, c .before .before .before .wide .ensures .0) (small (s .args .d) (s .pre .0), s .pre .2)
 
 halved-requires : tie.Need-halved-requires
 halved-requires c κs = search needs

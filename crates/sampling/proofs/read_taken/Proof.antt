@@ -1,5 +1,5 @@
 -- `sampling::read_taken` meets its contract. Assumes nothing.
-use Prim.Native.Nat.{ℕ, _*_, _≤_}
+use Prim.Native.Nat.{_*_, _≤_}
 use mathlib.Core.Path.{_≡_, sym, ap, _∙_}
 use native.Mathlib.Omega.{arith}
 use lib.ListN.{length, take}
@@ -7,7 +7,7 @@ use lib.Seq.{length-take-le}
 use Rattle.cube.specs.Places.{rowsOf}
 use Rattle.cube.specs.Regions.{floatRows}
 use Rattle.runs.proofs.Answers.{front-over}
-use Rattle.sampling.proofs.Taken.{taken-allowed, taken-ready, count-is, plane-is, whole-is, plane-fits, whole-fits}
+use Rattle.sampling.proofs.Taken.{taken-allowed, taken-runs, taken-ready, whole-is, plane-fits, whole-fits}
 use borrow.Author.Needs.{needs}
 use Rattle.sampling.proofs.read_taken.Statement.{statement}
 use Rattle.sampling.proofs.read_taken.Tie as tie
@@ -37,33 +37,34 @@ lattice-of-requires c κs =
     let a = s .args in
     taken-allowed (a .r) (a .file .now) (a .g) (length (a .out .now)) (s .pre)
 
-mul-plane : tie.Need-mul-plane
-mul-plane c = omega (arith, plane (c .before), fits (c .before), start (c .before))
-
 mul-n : tie.Need-mul-n
-mul-n c = omega (arith, fits (c .before .before), start (c .before .before))
+mul-n c = omega (arith, plane (c .before), fits (c .before), start (c .before))
 
-slice-relend-prefix-read-planes : tie.Need-slice-relend-prefix-read-planes
-slice-relend-prefix-read-planes c = fits (c .before .before)
+mul-n-2 : tie.Need-mul-n-2
+mul-n-2 c = omega (arith, fits (c .before .before), start (c .before .before))
 
-slice-aggregate-read-planes : tie.Need-slice-aggregate-read-planes
-slice-aggregate-read-planes c = sym (front (c .before .before .before))
+slice-relend-prefix-read-bricks : tie.Need-slice-relend-prefix-read-bricks
+slice-relend-prefix-read-bricks c = fits (c .before .before)
+
+slice-aggregate-read-bricks : tie.Need-slice-aggregate-read-bricks
+slice-aggregate-read-bricks c = sym (front (c .before .before .before))
 
 range-of-requires : tie.Need-range-of-requires
 range-of-requires c κs = search needs
 
-read-planes-requires : tie.Need-read-planes-requires
-read-planes-requires c κs =
+read-bricks-requires : tie.Need-read-bricks-requires
+read-bricks-requires c κs =
     let l = c .before .before .before .before in
     let s = start l in
     let a = s .args in
     let q = l .lattice-of .result in
     let laid = l .lattice-of .ensures in (
-      (taken-ready (a .r) (a .file .now) (a .g) (length (a .out .now)) (s .pre) q laid, c .range-of .ensures),
       (
-        plane-is (a .r) (a .file .now) (a .g) (length (a .out .now)) (s .pre) q laid,
-        front l ∙ ap (λ (n : ℕ). n * (q .count1 * q .count2)) (count-is (a .r) (a .file .now) (a .g) (length (a .out .now)) (s .pre) q laid),
+        taken-ready (a .r) (a .file .now) (a .g) (length (a .out .now)) (s .pre) q laid,
+        c .range-of .ensures,
+        front l ∙ whole-is (a .r) (a .file .now) (a .g) (length (a .out .now)) (s .pre) q laid,
       ),
+      taken-runs (a .r) (a .file .now) (a .g) (length (a .out .now)) (s .pre),
     )
 
 same-length : tie.Need-same-length
@@ -74,7 +75,7 @@ returns c =
     let l = c .before .before .before .before .before .before .before in
     let s = start l in
     let a = s .args in
-    let call = c .before .before .read-planes in (
+    let call = c .before .before .read-bricks in (
       whole-is (a .r) (a .file .now) (a .g) (length (a .out .now)) (s .pre) (l .lattice-of .result) (l .lattice-of .ensures),
       front-over (floatRows (a .r) (rowsOf (a .r) (a .file .now)) (a .g)) (call .last .0) (a .out .now) _ (call .ensures) (ap length (sym (call .ensures)) ∙ call .kept .0 ∙ front l),
     )
@@ -84,11 +85,11 @@ read-taken-spec =
     tie.close
     (tie.spec
     lattice-of-requires
-    mul-plane
     mul-n
-    slice-relend-prefix-read-planes
-    slice-aggregate-read-planes
+    mul-n-2
+    slice-relend-prefix-read-bricks
+    slice-aggregate-read-bricks
     range-of-requires
-    read-planes-requires
+    read-bricks-requires
     same-length
     returns)
