@@ -199,11 +199,11 @@ impl Growth {
         self.plain.extend(times.map(|times| times.plain / by));
     }
 
-    /// From first to last the library's grows no more than plain Rust's, with a quarter to spare. That allows for caches that
-    /// end, which both feel.
+    /// The library's last is at most a quarter above its first or above plain Rust's last. The latter allows for caches that end,
+    /// which both feel.
     fn is_sound(&self) -> bool {
-        let grown = |times: &[f64]| times.last().zip(times.first()).map_or(1.0, |(last, first)| last / first);
-        grown(&self.library) <= 1.25 * grown(&self.plain).max(1.0)
+        let Some(((first, last), plain)) = self.library.first().zip(self.library.last()).zip(self.plain.last()) else { return true };
+        *last <= 1.25 * first.max(*plain)
     }
 }
 
