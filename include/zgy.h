@@ -88,7 +88,13 @@ typedef struct ZgyGrid {
     float max;
 } ZgyGrid;
 
-/* What opening says of a cube. The host keeps it and passes it, unchanged, with the cube's bytes. */
+/*
+ * What opening says of a cube. The host keeps it and passes it, unchanged, with the cube's bytes.
+ *
+ * Entries number the bricks of all levels, as the brick table has them. The highest level's single brick is entry 0, the levels
+ * below it follow in turn, and level 0 comes last: the last brick of level 0 is entry bricks - 1. Inside a level inline runs
+ * fastest and vertical slowest.
+ */
 typedef struct ZgyRecord {
     uint32_t version;
     ZgyDescription description;
@@ -160,7 +166,7 @@ ZgyOpened zgy_open(const uint8_t *file, size_t file_length);
 /*
  * What the brick of an entry is.
  *   file, cube    the opened cube's bytes and its record
- *   entry         0 to cube.bricks - 1
+ *   entry         0 to cube.bricks - 1, numbered as ZgyRecord says
  * Answers its kind, with the value of a constant brick or the offset of a stored one.
  * Refusals: 14, 16, 12, in this order.
  */

@@ -576,11 +576,22 @@ def extent(description, level):
 
 
 def entry_number(description, level, brick):
-    """The entry of a brick: level 0 first; inside a level inline runs fastest, vertical slowest."""
+    """The entry of a brick: the highest level first, level 0 last; inside a level inline runs fastest, vertical slowest."""
     counts = description.counts
     inline, crossline, vertical = brick
     across, down, _ = counts[level]
-    return brick_total(counts[:level]) + inline + across * (crossline + down * vertical)
+    return brick_total(counts[level + 1:]) + inline + across * (crossline + down * vertical)
+
+
+def bricks_in_order(counts):
+    """The bricks of all levels, each after its level, as the table has them."""
+    return [
+        (level, (inline, crossline, vertical))
+        for level in reversed(range(len(counts)))
+        for vertical in range(counts[level][2])
+        for crossline in range(counts[level][1])
+        for inline in range(counts[level][0])
+    ]
 
 
 def item_number(side, within):
@@ -783,7 +794,7 @@ entry 0 constant 0
 
 CASE_13 = Description(type=INT8, side=(4, 4, 4), size=(3, 4, 2))
 
-# Seven entries: four bricks at level 0, two at level 1, one at level 2.
+# Seven entries: one brick at level 2, two at level 1, four at level 0.
 SEVEN = Description(size=(16, 4, 4))
 
 
@@ -1320,9 +1331,54 @@ def case_1():
     return file, calls + [("raw", *whole_level(CASE_1, 0)), ("raw", *whole_level(CASE_1, 2)), ("raw", 3, 0, 0, 0, 1, 1, 1)]
 
 
+# Bricks of 3 x 2 x 3 at level 0, 2 x 1 x 2 at level 1 and 1 at level 2. The range makes each float its storage value.
+HIGHEST_FIRST = Description(type=INT16, size=(9, 5, 9), range_bits=floats_bits(-32768.0, 32767.0))
+
+# A sample of some of these bricks, as level and place, and the constant that the brick holds.
+HIGHEST_FIRST_SAMPLES = [
+    (2, (0, 0, 0), 200), (2, (2, 1, 2), 200),
+    (1, (0, 0, 0), 100), (1, (4, 0, 0), 101), (1, (0, 0, 4), 102), (1, (4, 2, 4), 103),
+    (0, (0, 0, 0), 0), (0, (8, 0, 0), 2), (0, (0, 4, 0), 3), (0, (0, 0, 4), 6), (0, (8, 4, 8), 17),
+]
+
+
+def highest_first():
+    """A cube with its table written out, and calls that tell its levels apart: the highest level's brick comes first, and each
+    brick is the constant 100 x its level + its number in the level."""
+    entries = [constant(200), *(constant(100 + number) for number in range(4)), *(constant(number) for number in range(18))]
+    file = build(HIGHEST_FIRST, NO_STRINGS, entries)
+    record = open_record(file)
+    calls = [("kind", entry) for entry in (0, 1, 4, 5, 22, 23)]
+    for level in range(3):
+        whole = whole_level(HIGHEST_FIRST, level)
+        calls += [("raw", *whole), ("float", *whole), ("write", *whole)]
+    # Entry 3 is brick (0, 0, 1) of level 1.
+    for number in (MISSING, record.header - 1):
+        calls += [put_entry(record, 3, number), ("raw", *whole_level(HIGHEST_FIRST, 1)), ("write", 1, 0, 0, 4, 4, 3, 1)]
+        calls += [("raw", *whole_level(HIGHEST_FIRST, 2)), ("open",)]
+    return file, calls
+
+
 def expect(found, promised, what):
     if found != promised:
         raise SystemExit(f"{what}: {found}, and the paper says {promised}")
+
+
+def expect_order(description):
+    """A brick's entry is its place in the table: the highest level's brick comes first, the last brick of level 0 last."""
+    counts = description.counts
+    order = bricks_in_order(counts)
+    expect([entry_number(description, *brick) for brick in order], list(range(brick_total(counts))), "entries in order")
+    expect(order[0], (len(counts) - 1, (0, 0, 0)), "the first entry")
+    expect(order[-1], (0, tuple(n - 1 for n in counts[0])), "the last entry")
+
+
+def expect_highest_first():
+    """Each level's samples are those of its own bricks."""
+    file, _ = highest_first()
+    record = open_record(file)
+    for level, sample, number in HIGHEST_FIRST_SAMPLES:
+        expect(sample_float(file, record, level, sample), float(number), f"sample {sample} of level {level}")
 
 
 def expect_worked_numbers():
@@ -1330,9 +1386,11 @@ def expect_worked_numbers():
     expect([math.prod(n) for n in CASE_1.counts], [6, 2, 1], "worked number 1, bricks")
     expect([i * j for i, j, _ in CASE_1.counts], [2, 1, 1], "worked number 1, alpha")
     expect(CASE_1.header_end(NO_STRINGS), 2519, "worked number 2")
-    expect(entry_number(CASE_1, 0, (1, 0, 2)), 5, "worked number 3")
-    expect(entry_number(CASE_1, 1, (0, 0, 1)), 7, "worked number 3")
-    expect(place_in_bricks(CASE_1, 0, (70, 5, 130)), (5, 24898), "worked number 4")
+    expect(entry_number(CASE_1, 0, (1, 0, 2)), 8, "worked number 3")
+    expect(entry_number(CASE_1, 1, (0, 0, 1)), 2, "worked number 3")
+    expect(place_in_bricks(CASE_1, 0, (70, 5, 130)), (8, 24898), "worked number 4")
+    for description in (CASE_1, *vector_descriptions().values()):
+        expect_order(description)
     nine = Description(size=(9, 4, 4))
     expect(brick_total(nine.counts), 6, "worked number 5")
     expect(extent(nine, 1), (5, 2, 2), "worked number 5, extent")
@@ -1408,23 +1466,22 @@ def stored_entries(file, record):
 
 def region_of_brick(description, entry):
     """The region of a brick's samples inside the extent."""
-    for level, counts in enumerate(description.counts):
-        for brick in ((i, j, k) for i in range(counts[0]) for j in range(counts[1]) for k in range(counts[2])):
-            if entry_number(description, level, brick) == entry:
-                starts = [n * side for n, side in zip(brick, description.side)]
-                ends = extent(description, level)
-                return (level, *starts, *(min(side, n - s) for side, n, s in zip(description.side, ends, starts)))
-    raise ValueError(entry)
+    level, brick = bricks_in_order(description.counts)[entry]
+    starts = [n * side for n, side in zip(brick, description.side)]
+    ends = extent(description, level)
+    return (level, *starts, *(min(side, n - s) for side, n, s in zip(description.side, ends, starts)))
 
 
 def write_calls(file, record, chance):
     """Writes of odd regions, each read again; of single bricks; and of whole levels."""
     d = record.description
+    stored = stored_entries(file, record)
     calls = [("room", math.prod(d.size) * WIDTHS[d.type] + 9)]
     for _ in range(4):
         region = random_region(d, chance, chance.randrange(record.levels))
         calls += [("seed", chance.getrandbits(31)), ("write", *region), ("raw", *region)]
-    for entry in chance.sample(stored_entries(file, record), min(3, len(stored_entries(file, record)))):
+    # The first stored brick is one of the highest level that has any.
+    for entry in sorted({*stored[:1], *chance.sample(stored, min(3, len(stored)))}):
         region = region_of_brick(d, entry)
         calls += [("seed", chance.getrandbits(31)), ("write", *region), ("raw", *whole_level(d, region[0])), ("float", *region)]
     return calls + [("write", *whole_level(d, level)) for level in range(record.levels)] + [("open",)]
@@ -1455,15 +1512,19 @@ def damaged_calls(file, record):
     d = record.description
     table = record.header - ENTRY_BYTES * record.bricks
     calls = []
+    # Entry 0 is of the highest level and the last of level 0, so entry 1 is of one between where there is one.
+    between = [(1, record.header - 1)] if record.levels > 2 else []
     for entry, number in [
             (record.bricks - 1, record.header - 1),
             (record.bricks // 2, record.length - d.brick_bytes + 1),
+            *between,
             (0, TOP_BIT - 1)]:
         (old,) = struct.unpack_from("<Q", file, table + ENTRY_BYTES * entry)
         region = region_of_brick(d, entry)
+        other = record.levels - 1 if region[0] == 0 else 0
         calls += [put_entry(record, entry, number), ("kind", entry), ("view", entry, 0, 1, 0, 0)]
         calls += [("raw", *region), ("float", *region), ("write", *region), ("raw", *whole_level(d, region[0]))]
-        calls += [("write", *whole_level(d, region[0])), ("raw", *whole_level(d, record.levels - 1)), ("open",)]
+        calls += [("write", *whole_level(d, region[0])), ("raw", *whole_level(d, other)), ("open",)]
         calls += [put_entry(record, entry, old)]
     (first,) = struct.unpack_from("<Q", file, table)
     (last,) = struct.unpack_from("<Q", file, table + ENTRY_BYTES * (record.bricks - 1))
@@ -1588,6 +1649,7 @@ def vector_files():
     constants, zeros, kinds = all_constant(small, STRINGS), all_stored(small, STRINGS), shuffled_cube(77, small, STRINGS)
     files = {
         "case_1": case_1(),
+        "highest_first": highest_first(),
         "worked_11": (worked_11(), [("kind", 0), ("raw", 0, 0, 0, 0, 1, 1, 4), ("float", 0, 0, 0, 0, 1, 1, 4)]),
         "worked_12": (worked_12(), [("position", 0, index) for index in range(5)]),
         "made_constant": (constants, standard_calls(5, constants)),
@@ -1610,9 +1672,21 @@ def expect_numbers_seen(lines):
         raise SystemExit(f"refusals without a call: {sorted(set(range(1, 21)) - seen)}")
 
 
+def expect_levels_named(lines):
+    """Refusals 12 and 19 name entries of level 0 and, after the table's first entry, of levels above it."""
+    seen = set()
+    for words in map(str.split, lines):
+        if words[0] in ("raw", "float", "write") and words[8] == "refused" and words[10] != "0":
+            seen.add((int(words[9]), words[1] == "0"))
+    unseen = {(number, lowest) for number in (12, 19) for lowest in (True, False)} - seen
+    if unseen:
+        raise SystemExit(f"refusals that no call names an entry for, and whether of level 0: {sorted(unseen)}")
+
+
 def write_vectors():
     """Writes the cubes and the calls that the program vectors is run on, and the answers that it must write."""
     expect_worked_numbers()
+    expect_highest_first()
     files = vector_files()
     folder = ROOT / "crates" / "vectors"
     (folder / "data").mkdir(parents=True, exist_ok=True)
@@ -1626,6 +1700,7 @@ def write_vectors():
         pairs += [name, list_name]
         lines += answers(name, file, calls)
     expect_numbers_seen(lines)
+    expect_levels_named(lines)
     (folder / "args").write_text("".join(f"{name}\n" for name in pairs))
     (folder / "stdout").write_text("".join(f"{line}\n" for line in lines))
     total = sum(len(file) + 4 * CALL_WORDS * len(calls) for file, calls in files.values())

@@ -137,6 +137,47 @@ static void strings(void)
     CHECK(refused.number == ZGY_REFUSED_RECORD && refused.found == 0);
 }
 
+/* The first sample of inline i. */
+static uint8_t sample(const uint8_t *file, ZgyRecord cube, uint32_t level, uint32_t i)
+{
+    uint8_t found = 99;
+    ZgyDone read = zgy_read_raw(&found, 1, file, (size_t)cube.length, cube, region(level, i, 0, 0, 1, 1, 1));
+    CHECK(read.number == 0 && read.count == 1);
+    return found;
+}
+
+/*
+ * Size (9, 4, 4), side 4: 1 brick at level 2, 2 at level 1 and 3 at level 0, side by side along inline, and headers of 2,511 bytes.
+ * Entry n is made the constant n: entry 0 is level 2's, 1 and 2 are level 1's, 3 to 5 level 0's.
+ */
+static void entries(void)
+{
+    enum { BRICKS = 6, END = 2511, TABLE = END - 8 * BRICKS };
+    static const uint8_t one[1] = {77};
+    static uint8_t file[ROOM];
+    ZgyDescription d = described();
+    ZgyDone made, refused;
+    ZgyRecord cube;
+    int n;
+    d.size[0] = 9;
+    d.size[1] = 4;
+    d.size[2] = 4;
+    made = zgy_make(file, ROOM, d, empty_text, sizeof empty_text, ZGY_FILL_CONSTANT);
+    CHECK(made.number == 0 && made.count == END);
+    for (n = 0; n < BRICKS; n++) {
+        CHECK(file[TABLE + 8 * n] == 0 && file[TABLE + 8 * n + 7] == 0x80);
+        file[TABLE + 8 * n] = (uint8_t)n;
+    }
+    cube = zgy_open(file, END).cube;
+    CHECK(cube.levels == 3 && cube.bricks == BRICKS && cube.alphas == BRICKS && cube.header == END);
+    CHECK(sample(file, cube, 2, 0) == 0 && sample(file, cube, 2, 2) == 0);
+    CHECK(sample(file, cube, 1, 0) == 1 && sample(file, cube, 1, 4) == 2);
+    CHECK(sample(file, cube, 0, 0) == 3 && sample(file, cube, 0, 4) == 4 && sample(file, cube, 0, 8) == 5);
+    CHECK(zgy_brick_kind(file, END, cube, 5).value == 5.0);
+    refused = zgy_write(file, END, one, 1, cube, region(1, 4, 0, 0, 1, 1, 1));
+    CHECK(refused.number == ZGY_REFUSED_NOT_STORED && refused.entry == 2 && refused.count == 0);
+}
+
 /* Sides (16, 16, 4), place (9, 3, 2): subtiled 558, plain 590. */
 static void permutations(void)
 {
@@ -165,6 +206,7 @@ int main(void)
     samples(file, cube);
     positions(cube);
     strings();
+    entries();
     permutations();
     if (failures == 0) {
         puts("calls.c: every call answers as the header says");

@@ -31,6 +31,11 @@ tri-carry m n a b = simp (add-suc, suc-mul, add-zero)
 pub tri-carry-2 : (m n a : ℕ) → tri m n a m 0 ≡ tri m n (suc a) 0 0
 tri-carry-2 m n a = simp (suc-mul, add-zero)
 
+-- the largest number of three digits
+pub tri-last : (l m n : ℕ) → suc (tri (suc m) (suc n) l m n) ≡ suc l * suc m * suc n
+tri-last l m n =
+    sym (tri-suc (suc m) (suc n) l m n) ∙ tri-carry (suc m) (suc n) l m ∙ tri-carry-2 (suc m) (suc n) l ∙ simp add-zero
+
 -- items of w bytes, one after the other
 pub next-item : (w a b : ℕ) → a < b → a * w + w ≤ b * w
 next-item w a b h = rw (← suc-mul a w) (mul-le-mul-right w h)

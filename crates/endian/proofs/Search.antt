@@ -3,7 +3,8 @@ use mathlib.Core.Path.{_≡_, refl, sym, _∙_}
 use mathlib.Core.Logic.{_⊎_, ⊎-elim}
 use mathlib.Core.Bool.{Bool, true, false}
 use Prim.Native.Nat.{ℕ, zero, suc, _+_, _≤_, _<_, zero-le}
-use native.Mathlib.Nat.{eq-or-lt-of-le, not-suc-le-zero, le-refl}
+use native.Mathlib.Decide.{decLe}
+use native.Mathlib.Nat.{eq-or-lt-of-le, lt-of-not-le, not-suc-le-zero, le-refl, add-suc, add-zero}
 use native.Mathlib.Numerals.{add-one}
 use native.Mathlib.Omega.{arith}
 use Rattle.endian.specs.Loops.{firstFrom, first, sumTo}
@@ -74,6 +75,14 @@ from-before p (suc fuel) k j g h = go (p k) refl (from-before p fuel (suc k) j)
 pub first-before : (p : ℕ → Bool) (n j : ℕ) → j < first p n → p j ≡ false
 first-before p n j h = from-before p n 0 j zero-le h
 
+-- so the first is no later than any that passes
+pub first-upto : (p : ℕ → Bool) (n m : ℕ) → p m ≡ true → first p n ≤ m
+first-upto p n m e =
+    elim (decLe (first p n) m) [
+      | yes h ↦ h
+      | no h ↦ clash (p m) e (first-before p n m (lt-of-not-le h))
+    ]
+
 -- a sum with one term more, at the code's i + 1
 pub sum-more : (f : ℕ → ℕ) (n : ℕ) → sumTo f (n + 1) ≡ sumTo f n + f n
 unfolding sumTo
@@ -93,3 +102,9 @@ sum-part f l (suc n) h =
     (λ (e : suc l ≡ suc n). let q : l ≡ n = omega arith in rw q (le-refl (sumTo f n + f n)))
     (λ (g : suc l < suc n). omega (arith, sum-part f l n (omega arith)))
     (eq-or-lt-of-le h)
+
+-- a sum, cut after its first m terms
+pub sum-cut : (f : ℕ → ℕ) (m n : ℕ) → sumTo f (m + n) ≡ sumTo f m + sumTo (λ t. f (m + t)) n
+unfolding sumTo
+sum-cut f m zero = rw add-zero (omega arith)
+sum-cut f m (suc n) = rw (add-suc, sumTo) (omega (arith, sum-cut f m n))

@@ -1,18 +1,18 @@
 -- Rounding up, halving, the last level, and what the counts of all levels are bounded by. Assumes nothing.
 use mathlib.Core.Path.{_≡_, refl, sym, ap, _∙_}
 use mathlib.Core.Logic.{⊎-elim}
-use mathlib.Core.Bool.{true, false}
+use mathlib.Core.Bool.{Bool, true, false}
 use Prim.Native.Nat.{ℕ, zero, suc, _+_, _-_, _*_, _/_, _^_, _≤_, _<_}
 use native.Mathlib.Nat.{eq-or-lt-of-le, le-refl, le-antisymm, le-trans, div-lt-iff-lt-mul, mul-assoc, mul-comm, mul-pos, pow-suc, add-mul, one-mul, mul-one, mul-le-mul, one-le-mul, le-mul-of-pos-right}
 use native.Mathlib.Numerals.{add-one}
 use native.Mathlib.Omega.{arith}
 use lib.Pow.{pow-pos}
 use lib.Dec.{eqb}
-use borrow.Author.Tests.{eqb-true}
+use borrow.Author.Tests.{eqb-true, eq-eqb}
 use Rattle.endian.specs.Loops.{first, sumTo}
-use Rattle.endian.proofs.Search.{first-le, first-at, first-is, sum-ext, sum-part}
+use Rattle.endian.proofs.Search.{clash, first-le, first-upto, first-at, first-before, first-is, sum-ext, sum-part}
 use Rattle.geometry.specs.Geometry.{ceilDiv, halved, extent, bricksAt, levels, bricks, alphas, Small}
-use Rattle.geometry.specs.Laws.{LevelsCover}
+use Rattle.geometry.specs.Laws.{Allowed, LastLevel, LevelsCover}
 
 -- n / d rounded up is at most m exactly where n is at most m * d
 pub ceil-le : (n d m : ℕ) → 0 < d → n ≤ m * d → ceilDiv n d ≤ m
@@ -74,10 +74,6 @@ pub covers : (size side l : ℕ) → 0 < side → extent size l ≤ halved (ceil
 covers size side l pos =
     rw (count-direct size side l pos .1) (ceil-le⁻¹ (extent size l) side (ceilDiv (extent size l) side) pos (le-refl (ceilDiv (extent size l) side)))
 
-pub levels-cover : LevelsCover
-levels-cover =
-    record { covers = covers; by-size = λ size side l pos. count-direct size side l pos .0; by-extent = λ size side l pos. count-direct size side l pos .1 }
-
 -- one level more, at the code's l + 1
 pub half-more : (n l : ℕ) → halved n (l + 1) ≡ (halved n l + 1) / 2
 unfolding halved
@@ -98,21 +94,44 @@ unfolding halved
 half-one zero = refl
 half-one (suc l) = omega (arith, half-one l)
 
--- at level 20 one brick is left in a direction
-half-twenty : (n : ℕ) → 1 ≤ n → n ≤ 1048576 → halved n 20 ≡ 1
-half-twenty n lo hi = le-antisymm (rw (at-direct n 20) (ceil-le n (2 ^ 20) 1 (pow-pos 20) (omega arith))) (half-pos n 20 lo)
+-- at level 18 one brick is left in a direction
+half-eighteen : (n : ℕ) → 1 ≤ n → n ≤ 262144 → halved n 18 ≡ 1
+half-eighteen n lo hi = le-antisymm (rw (at-direct n 18) (ceil-le n (2 ^ 18) 1 (pow-pos 18) (omega arith))) (half-pos n 18 lo)
 
--- the last level is one with one brick: the bound of 20 in `levels` is never met
-pub last-one : (a b c : ℕ) → 1 ≤ a → a ≤ 1048576 → 1 ≤ b → b ≤ 1048576 → 1 ≤ c → c ≤ 1048576
-    → bricksAt a b c (first (λ l. eqb (bricksAt a b c l) 1) 20) ≡ 1
-last-one a b c la ha lb hb lc hc =
-    ⊎-elim
-    (λ (e : last ≡ 20). rw (e, half-twenty a la ha, half-twenty b lb hb, half-twenty c lc hc))
-    (λ (h : last < 20). eqb-true (bricksAt a b c last) 1 (first-at (λ l. eqb (bricksAt a b c l) 1) 20 h))
-    (eq-or-lt-of-le (first-le (λ l. eqb (bricksAt a b c l) 1) 20))
-  where
-    last : ℕ
-    last = first (λ l. eqb (bricksAt a b c l) 1) 20
+-- the last level is the first with one brick: the bound of 20 in `levels` is never met
+module _ (a b c : ℕ) (la : 1 ≤ a) (lb : 1 ≤ b) (lc : 1 ≤ c) (small : Small a b c) where
+  abbrev single : ℕ → Bool
+  single l = eqb (bricksAt a b c l) 1
+
+  last-level : LastLevel a b c
+  last-level =
+      let at18 : bricksAt a b c 18 ≡ 1 = rw (half-eighteen a la (small .inline), half-eighteen b lb (small .crossline), half-eighteen c lc (small .vertical)) in
+      let early : first single 20 ≤ 18 = first-upto single 20 18 (eq-eqb (bricksAt a b c 18) 1 at18) in
+      let top : levels a b c - 1 ≡ first single 20 = omega arith in
+      record { one = rw top (eqb-true (bricksAt a b c (first single 20)) 1 (first-at single 20 (omega arith))); more = above-one; found = omega arith }
+    where
+      above-one : (l : ℕ) → l < levels a b c - 1 → 1 < bricksAt a b c l
+      above-one l h =
+          ⊎-elim
+          (λ (e : 1 ≡ bricksAt a b c l). clash (single l) (eq-eqb (bricksAt a b c l) 1 (sym e)) (first-before single 20 l (omega arith)))
+          (λ (g : 1 < bricksAt a b c l). g)
+          (eq-or-lt-of-le (one-le-mul (one-le-mul (half-pos a l la) (half-pos b l lb)) (half-pos c l lc)))
+
+allowed-some : {size side : ℕ} → Allowed size side → 1 ≤ ceilDiv size side
+allowed-some {size} {side} h = ceil-pos size side (h .some) (omega arith)
+
+allowed-small : {n0 n1 n2 s0 s1 s2 : ℕ} → Allowed n0 s0 → Allowed n1 s1 → Allowed n2 s2 → Small (ceilDiv n0 s0) (ceilDiv n1 s1) (ceilDiv n2 s2)
+allowed-small {n0} {n1} {n2} {s0} {s1} {s2} h0 h1 h2 =
+    record { inline = ceil-small n0 s0 (h0 .most) (h0 .least); crossline = ceil-small n1 s1 (h1 .most) (h1 .least); vertical = ceil-small n2 s2 (h2 .most) (h2 .least) }
+
+pub levels-cover : LevelsCover
+levels-cover =
+    record {
+      covers = covers;
+      by-size = λ size side l pos. count-direct size side l pos .0;
+      by-extent = λ size side l pos. count-direct size side l pos .1;
+      last = λ n0 n1 n2 s0 s1 s2 h0 h1 h2. last-level (ceilDiv n0 s0) (ceilDiv n1 s1) (ceilDiv n2 s2) (allowed-some h0) (allowed-some h1) (allowed-some h2) (allowed-small h0 h1 h2);
+    }
 
 pub levels-le : (a b c : ℕ) → levels a b c ≤ 21
 levels-le a b c = omega (arith, first-le (λ m. eqb (bricksAt a b c m) 1) 20)

@@ -4,6 +4,7 @@ use Prim.Native.Nat.{ℕ, zero, suc, _+_, _-_, _*_, _/_, _^_, _≤_, _<_}
 use lib.Dec.{eqb}
 use Rattle.endian.specs.Loops.{first, sumTo, tri}
 use Rattle.geometry.specs.declared.Shape.{Shape}
+use Rattle.geometry.specs.declared.Level.{Level}
 
 -- n / d, rounded up
 abbrev pub ceilDiv : ℕ → ℕ → ℕ
@@ -22,7 +23,7 @@ extent size l = ceilDiv size (2 ^ l)
 abbrev pub bricksAt : ℕ → ℕ → ℕ → ℕ → ℕ
 bricksAt a b c l = halved a l * halved b l * halved c l
 
--- levels, to the first with one brick. 20 is past the last level of any allowed size (law `last-one`)
+-- levels, to the first with one brick. 20 is past the last level of any allowed size (law `last` of `LevelsCover`)
 abbrev pub levels : ℕ → ℕ → ℕ → ℕ
 levels a b c = first (λ l. eqb (bricksAt a b c l) 1) 20 + 1
 
@@ -34,13 +35,21 @@ bricks a b c = sumTo (bricksAt a b c) (levels a b c)
 abbrev pub alphas : ℕ → ℕ → ℕ → ℕ
 alphas a b c = sumTo (λ l. halved a l * halved b l) (levels a b c)
 
--- the entries before those of level l: level 0 comes first
+-- the entries before those of level l: the highest level comes first, so they are the bricks of all higher levels
 unfoldable pub levelBase : ℕ → ℕ → ℕ → ℕ → ℕ
-levelBase a b c l = sumTo (bricksAt a b c) l
+levelBase a b c l = sumTo (λ m. bricksAt a b c (l + 1 + m)) (levels a b c - (l + 1))
 
--- the entry number of brick (i, j, k) of level l: inside a level inline runs fastest and vertical slowest
+-- what numbers the bricks of level l: the entries before it, and its bricks inline and crossline
+abbrev pub levelOf : ℕ → ℕ → ℕ → ℕ → Level
+levelOf a b c l = record { base = levelBase a b c l; inline = halved a l; crossline = halved b l }
+
+-- the entry number of brick (i, j, k) of a level: inside a level inline runs fastest and vertical slowest
+abbrev pub entryAt : Level → ℕ → ℕ → ℕ → ℕ
+entryAt v i j k = v .base + tri (v .crossline) (v .inline) k j i
+
+-- the entry number of brick (i, j, k) of level l
 unfoldable pub entryOf : ℕ → ℕ → ℕ → ℕ → ℕ → ℕ → ℕ → ℕ
-entryOf a b c l i j k = levelBase a b c l + tri (halved b l) (halved a l) k j i
+entryOf a b c l i j k = entryAt (levelOf a b c l) i j k
 
 -- the item number of (i, j, k) inside a brick whose second and third sides are s1 and s2: vertical runs fastest
 abbrev pub itemOf : ℕ → ℕ → ℕ → ℕ → ℕ → ℕ
@@ -62,7 +71,7 @@ headerEnd text alpha brick = tableStart text alpha + 8 * brick
 abbrev pub shapeOf : ℕ → ℕ → ℕ → Shape
 shapeOf a b c = record { levels = levels a b c; bricks = bricks a b c; alphas = alphas a b c }
 
--- counts so small that no product or sum of them wraps: an allowed size by the least side, 1,048,576 / 4, in each direction
+-- counts so small that no product or sum of them wraps: the largest size by the least side, 1,048,576 / 4, in each direction
 pub record Small (a b c : ℕ) : Type 0 where
   pub inline : a ≤ 262144
   pub crossline : b ≤ 262144

@@ -1,8 +1,8 @@
 -- What the numbering of bricks and the counts of a level owe, as statements that the source's empty functions prove.
 use mathlib.Core.Path.{_≡_}
 use mathlib.Core.Logic.{_⊎_}
-use Prim.Native.Nat.{ℕ, _*_, _^_, _≤_, _<_}
-use Rattle.geometry.specs.Geometry.{ceilDiv, halved, extent, bricks, entryOf, Brick}
+use Prim.Native.Nat.{ℕ, _+_, _-_, _*_, _^_, _≤_, _<_}
+use Rattle.geometry.specs.Geometry.{ceilDiv, halved, extent, bricksAt, levels, bricks, entryOf, Brick}
 
 -- brick (i, j, k) comes before brick (i′, j′, k′) of the same level: vertical decides first, then crossline, then inline
 abbrev pub Before : ℕ → ℕ → ℕ → ℕ → ℕ → ℕ → Type 0
@@ -18,6 +18,26 @@ pub record EntryNumbers : Type 0 where
   -- inside a level numbers ascend: inline runs fastest, vertical slowest
   pub ascending : (a b c l i j k i′ j′ k′ : ℕ) → Brick a b c l i j k → Brick a b c l i′ j′ k′
       → Before i j k i′ j′ k′ → entryOf a b c l i j k < entryOf a b c l i′ j′ k′
+  -- every entry of a higher level comes before every entry of a lower one
+  pub higher-first : (a b c l i j k l′ i′ j′ k′ : ℕ) → Brick a b c l i j k → Brick a b c l′ i′ j′ k′
+      → l′ < l → entryOf a b c l i j k < entryOf a b c l′ i′ j′ k′
+  -- the highest level's brick is entry 0
+  pub starts : (a b c : ℕ) → entryOf a b c (levels a b c - 1) 0 0 0 ≡ 0
+  -- the last brick of level 0 is the last entry
+  pub ends : (a b c : ℕ) → 1 ≤ a → 1 ≤ b → 1 ≤ c → entryOf a b c 0 (a - 1) (b - 1) (c - 1) + 1 ≡ bricks a b c
+
+-- a size that check 6 allows, and a side no smaller than the least that check 4 allows
+pub record Allowed (size side : ℕ) : Type 0 where
+  pub some : 1 ≤ size
+  pub most : size ≤ 1048576
+  pub least : 4 ≤ side
+
+-- the last level of a cube with a, b and c bricks at level 0 is the first with one brick
+pub record LastLevel (a b c : ℕ) : Type 0 where
+  pub one : bricksAt a b c (levels a b c - 1) ≡ 1
+  pub more : (l : ℕ) → l < levels a b c - 1 → 1 < bricksAt a b c l
+  -- the search for it looks at 20 levels, and ends before
+  pub found : levels a b c - 1 < 20
 
 -- what every level's brick count owes, in a direction of this size and brick side
 pub record LevelsCover : Type 0 where
@@ -27,3 +47,5 @@ pub record LevelsCover : Type 0 where
   pub by-size : (size side l : ℕ) → 0 < side → halved (ceilDiv size side) l ≡ ceilDiv size (side * 2 ^ l)
   -- and it is the level's extent / side, rounded up
   pub by-extent : (size side l : ℕ) → 0 < side → halved (ceilDiv size side) l ≡ ceilDiv (extent size l) side
+  -- levels go to the first with one brick
+  pub last : (n0 n1 n2 s0 s1 s2 : ℕ) → Allowed n0 s0 → Allowed n1 s1 → Allowed n2 s2 → LastLevel (ceilDiv n0 s0) (ceilDiv n1 s1) (ceilDiv n2 s2)

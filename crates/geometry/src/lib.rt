@@ -1,9 +1,9 @@
-// Levels, brick counts, extents, entry numbers, item numbers and the header's end, on numbers alone.
+// Levels, brick counts, extents, entry numbers and the header's end, on numbers alone.
 // These are inner leaves: callers have checked sides and sizes before, so that nothing here can wrap.
 ghost use mathlib.Core.Path.{_≡_};
 ghost use Prim.Native.Nat.{_+_, _*_, _≤_, _<_};
-ghost use Rattle.endian.specs.Loops.{sumTo, tri};
-ghost use Rattle.geometry.specs.Geometry.{ceilDiv, halved, extent, bricksAt, levels, bricks, levelBase, entryOf, itemOf, brickBytes, tableStart, headerEnd, shapeOf, Small, Brick};
+ghost use Rattle.endian.specs.Loops.{sumTo};
+ghost use Rattle.geometry.specs.Geometry.{ceilDiv, halved, extent, bricksAt, levels, bricks, levelOf, entryAt, brickBytes, tableStart, headerEnd, shapeOf, Small};
 ghost use Rattle.geometry.specs.Laws.{EntryNumbers, LevelsCover};
 
 // Levels, and the bricks and alpha tiles of all levels.
@@ -11,6 +11,13 @@ pub struct Shape {
     pub levels: u64,
     pub bricks: u64,
     pub alphas: u64,
+}
+
+// What numbers the bricks of a level: the entries before it, and its bricks inline and crossline.
+pub struct Level {
+    pub base: u64,
+    pub inline: u64,
+    pub crossline: u64,
 }
 
 // n / d, rounded up.
@@ -105,37 +112,25 @@ pub fn shape_of(a: u64, b: u64, c: u64) -> Shape
     }
 }
 
-// The entries before those of level l.
-pub fn level_base(a: u64, b: u64, c: u64, l: u64) -> u64
-    requires { ⌜ Small a b c × (l < levels a b c) ⌝ }
-    ensures { λ r. ⌜ (r ≡ levelBase a b c l) × (r ≤ 21 * 18014398509481984) ⌝ }
+// Level l of a cube that has `total` bricks in all. The highest level's entries come first, so those before level l are
+// all but the entries of the levels up to l.
+pub fn level_of(a: u64, b: u64, c: u64, total: u64, l: u64) -> Level
+    requires { ⌜ Small a b c × (l < levels a b c) × (total ≡ bricks a b c) ⌝ }
+    ensures { λ v. ⌜ v ≡ levelOf a b c l ⌝ }
 {
-    bricks_below(a, b, c, l)
+    Level {
+        base: total - bricks_below(a, b, c, l + 1),
+        inline: halved(a, l),
+        crossline: halved(b, l),
+    }
 }
 
-// The place of (i, j, k) in a block of x by y by z: k runs fastest and i slowest.
-fn place(x: u64, y: u64, z: u64, i: u64, j: u64, k: u64) -> u64
-    requires { ⌜ Small x y z × (i < x) × (j < y) × (k < z) ⌝ }
-    ensures { λ r. ⌜ (r ≡ tri y z i j k) × (r < x * y * z) × (r < 18014398509481984) ⌝ }
+// The entry number of brick (i, j, k) of a level: inline runs fastest and vertical slowest.
+pub fn entry_at(v: Level, i: u64, j: u64, k: u64) -> u64
+    requires { ⌜ (i < v .inline) × (entryAt v i j k ≤ 18446744073709551615) ⌝ }
+    ensures { λ e. ⌜ e ≡ entryAt v i j k ⌝ }
 {
-    (i * y + j) * z + k
-}
-
-// The entry number of brick (i, j, k) of level l: in a level inline runs fastest and vertical slowest.
-pub fn entry_of(a: u64, b: u64, c: u64, l: u64, i: u64, j: u64, k: u64) -> u64
-    requires { ⌜ Small a b c × Brick a b c l i j k ⌝ }
-    ensures { λ r. ⌜ (r ≡ entryOf a b c l i j k) × (r < bricks a b c) ⌝ }
-{
-    let base = level_base(a, b, c, l);
-    base + place(halved(c, l), halved(b, l), halved(a, l), k, j, i)
-}
-
-// The item number of (i, j, k) in a brick of s0 by s1 by s2 items: vertical runs fastest.
-pub fn item_of(s0: u64, s1: u64, s2: u64, i: u64, j: u64, k: u64) -> u64
-    requires { ⌜ (s0 ≤ 256) × (s1 ≤ 256) × (s2 ≤ 256) × (i < s0) × (j < s1) × (k < s2) ⌝ }
-    ensures { λ r. ⌜ (r ≡ itemOf s1 s2 i j k) × (r < s0 * s1 * s2) ⌝ }
-{
-    place(s0, s1, s2, i, j, k)
+    v.base + ((k * v.crossline + j) * v.inline + i)
 }
 
 // The bytes of a brick with these sides and items of w bytes.
@@ -167,7 +162,7 @@ pub fn entry_numbers()
     ensures { λ r. ⌜ EntryNumbers ⌝ }
 {}
 
-// That a level's bricks cover its extent, and that the halving is one division: a theorem too.
+// That a level's bricks cover its extent, that the halving is one division, and that it goes on to the first level with one brick: a theorem too.
 pub fn levels_cover()
     ensures { λ r. ⌜ LevelsCover ⌝ }
 {}

@@ -10,15 +10,16 @@ use lib.Dec.{eqb}
 use lib.ListN.{length}
 use borrow.Author.Tests.{leb-true}
 use Rattle.endian.specs.Loops.{tri}
-use Rattle.geometry.specs.Geometry.{extent, bricks, tableStart}
-use Rattle.geometry.proofs.Levels.{covers, at-direct, half-le}
+use Rattle.geometry.specs.Geometry.{extent, bricks, entryAt, tableStart, Brick}
+use Rattle.geometry.specs.declared.Level.{Level}
+use Rattle.geometry.proofs.Levels.{covers, at-direct, half-le, halved-small, small-two}
 use Rattle.geometry.proofs.Entries.{entry-is, entry-below}
 use Rattle.record.specs.Record.{sideOf, sizeOf, countOf, bricksAlong, extentAlong, levelsOf, bricksOf, brickBytesOf, tableOf, headerOf, Sized}
 use Rattle.record.specs.Types.{codingOf, itemWidth, noType, widthOf}
 use Rattle.record.specs.declared.Coding.{Coding}
 use Rattle.record.specs.declared.Coding.the-variants.{Scaled, Float32, NoType}
 use Rattle.record.specs.declared.Record.{Record}
-use Rattle.record.proofs.Laws.{width-le}
+use Rattle.record.proofs.Laws.{small, width-le}
 use Rattle.checks.specs.Checks.{breaks5}
 use Rattle.checks.proofs.Described.{both, described-sized, described-few}
 use Rattle.checks.proofs.Records.{Fit, fits-all}
@@ -27,13 +28,13 @@ use Rattle.table.specs.Windows.{Width}
 use Rattle.table.proofs.Words.{kind-stored}
 use Rattle.table.specs.declared.Kind.{Kind}
 use Rattle.table.specs.declared.Kind.the-variants.{Missing, Constant, Stored}
+use Rattle.runs.specs.Runs.{levelIn}
 use Rattle.cube.specs.declared.Region.{Region}
 use Rattle.cube.specs.Places.{entryIn, kindIn}
 use Rattle.cube.specs.Regions.{startOf, runOf, runInside, inExtent, span, touched, badRange, notStored, isStored}
 use Rattle.regions.specs.declared.Entries.{Entries}
 use Rattle.regions.specs.declared.Along.{Along}
-use Rattle.regions.specs.declared.Steps.{Steps}
-use Rattle.regions.specs.Search.{entriesOf, failing, fails, Readable, entriesIn, Below, alongOf, stepsOf, blockOf, Passed}
+use Rattle.regions.specs.Search.{entriesOf, failing, fails, Readable, entriesIn, Below, alongOf, blockOf, Passed}
 use Rattle.endian.proofs.Cats.{cat-same}
 
 -- a run of at least one sample, inside an extent of a size that check 6 lets pass
@@ -104,24 +105,6 @@ module _ (r : Record) (g : Region) where
   unfolding entriesIn touched blockOf
   block-touched = cat-same _ _ _ (λ z _. cat-same _ _ _ (λ y _. cat-same _ _ _ (λ x _. rw (entry-step x y z))))
 
-  -- each of them is one of the cube's
-  block-brick : (x y z : ℕ) → Passed r g → x < blockOf r g .inline → y < blockOf r g .crossline → z < blockOf r g .vertical
-      → entryIn r (g .level) (x₀ + x) (y₀ + y) (z₀ + z) < bricksOf (r .description)
-  unfolding entryIn blockOf bricksOf levelsOf
-  block-brick x y z p hx hy hz =
-      entry-below _ _ _ (record {
-        level = rw (← fit-of r g p .levels-is) (p .leveled);
-        inline = along-below _ _ _ _ x (omega (arith, s .side0 .low)) (q .inline .some) (le-trans (q .inline .inside) (covers _ _ (g .level) (omega (arith, s .side0 .low)))) hx;
-        crossline = along-below _ _ _ _ y (omega (arith, s .side1 .low)) (q .crossline .some) (le-trans (q .crossline .inside) (covers _ _ (g .level) (omega (arith, s .side1 .low)))) hy;
-        vertical = along-below _ _ _ _ z (omega (arith, s .side2 .low)) (q .vertical .some) (le-trans (q .vertical .inside) (covers _ _ (g .level) (omega (arith, s .side2 .low)))) hz;
-      })
-    where
-      s : Sized (r .description)
-      s = sized-of r g p
-
-      q : Runs r g p
-      q = runs-of r g p
-
   block-pos : (1 ≤ blockOf r g .inline) × (1 ≤ blockOf r g .crossline)
   unfolding blockOf
   block-pos = (omega arith, omega arith)
@@ -130,11 +113,34 @@ module _ (r : Record) (g : Region) where
   unfolding blockOf
   block-high = omega arith
 
+  -- each of them is one of the cube's
+  block-brick : (x y z : ℕ) → Passed r g → x < blockOf r g .inline → y < blockOf r g .crossline → z < blockOf r g .vertical
+      → Brick (countOf (r .description) 0) (countOf (r .description) 1) (countOf (r .description) 2) (g .level) (x₀ + x) (y₀ + y) (z₀ + z)
+  unfolding blockOf levelsOf
+  block-brick x y z p hx hy hz =
+      record {
+        level = rw (← fit-of r g p .levels-is) (p .leveled);
+        inline = along-below _ _ _ _ x (omega (arith, s .side0 .low)) (q .inline .some) (le-trans (q .inline .inside) (covers _ _ (g .level) (omega (arith, s .side0 .low)))) hx;
+        crossline = along-below _ _ _ _ y (omega (arith, s .side1 .low)) (q .crossline .some) (le-trans (q .crossline .inside) (covers _ _ (g .level) (omega (arith, s .side1 .low)))) hy;
+        vertical = along-below _ _ _ _ z (omega (arith, s .side2 .low)) (q .vertical .some) (le-trans (q .vertical .inside) (covers _ _ (g .level) (omega (arith, s .side2 .low)))) hz;
+      }
+    where
+      s : Sized (r .description)
+      s = sized-of r g p
+
+      q : Runs r g p
+      q = runs-of r g p
+
+  block-entry : (x y z : ℕ) → Passed r g → x < blockOf r g .inline → y < blockOf r g .crossline → z < blockOf r g .vertical
+      → entryIn r (g .level) (x₀ + x) (y₀ + y) (z₀ + z) < bricksOf (r .description)
+  unfolding entryIn bricksOf
+  block-entry x y z p hx hy hz = entry-below _ _ _ (block-brick x y z p hx hy hz)
+
   row-below : (y z : ℕ) → Passed r g → y < blockOf r g .crossline → z < blockOf r g .vertical
       → blockOf r g .first + z * blockOf r g .layer + y * blockOf r g .row + blockOf r g .inline ≤ bricksOf (r .description)
   row-below y z p hy hz =
       let last = blockOf r g .inline - 1 in
-      omega (arith, block-pos, entry-step last y z, block-brick last y z p (omega (arith, block-pos)) hy hz)
+      omega (arith, block-pos, entry-step last y z, block-entry last y z p (omega (arith, block-pos)) hy hz)
 
   pub block-below : Passed r g → Below (blockOf r g) (bricksOf (r .description))
   block-below p z hz = (omega (arith, row-below 0 z p (block-pos .1) hz), λ y hy. row-below y z p hy hz)
@@ -194,24 +200,31 @@ module _ (r : Record) (f : Fit r) where
   unfolding entriesOf tableOf
   entries-made a n b w ea en eb ew = rw (ea, en, eb, ew, f .alphas-is, f .bricks-is, f .header-is)
 
-module _ (r : Record) (g : Region) (s : Steps) (x y z : Along)
-    (es : s ≡ stepsOf (r .description) (g .level))
+module _ (r : Record) (g : Region) (v : Level) (x y z : Along)
+    (ev : v ≡ levelIn (r .description) (g .level))
     (ex : x ≡ alongOf (sideOf (r .description) 0) (startOf g 0) (runOf g 0))
     (ey : y ≡ alongOf (sideOf (r .description) 1) (startOf g 1) (runOf g 1))
     (ez : z ≡ alongOf (sideOf (r .description) 2) (startOf g 2) (runOf g 2)) where
-  first-made : s .base + z .first * s .layer + y .first * s .row + x .first ≡ blockOf r g .first
-  unfolding stepsOf blockOf entryIn
-  first-made =
-      rw (es, ex, ey, ez)
-      (omega (arith, entry-is (countOf (r .description) 0) (countOf (r .description) 1) (countOf (r .description) 2) (g .level) (x₀ r g) (y₀ r g) (z₀ r g), tri-step (bricksAlong (r .description) (g .level) 1) (bricksAlong (r .description) (g .level) 0) 0 0 0 (x₀ r g) (y₀ r g) (z₀ r g)))
+  first-made : entryAt v (x .first) (y .first) (z .first) ≡ blockOf r g .first
+  unfolding blockOf entryIn
+  first-made = rw (ev, ex, ey, ez) (sym (entry-is _ _ _ (g .level) (x₀ r g) (y₀ r g) (z₀ r g)))
 
-  pub first-small : Passed r g → s .base + z .first * s .layer + y .first * s .row + x .first ≤ 18446744073709551615
-  first-small p = omega (arith, first-made, block-below r g p 0 (block-high r g), described-few _ _ (fit-of r g p .is-described))
+  -- what the first entry asks, and the entries of a layer
+  pub first-ok : Passed r g → (x .first < v .inline) × (entryAt v (x .first) (y .first) (z .first) ≤ 18446744073709551615)
+  first-ok p = (
+    rw (ev, ex) (omega (arith, block-brick r g 0 0 0 p (block-pos r g .0) (block-pos r g .1) (block-high r g) .inline)),
+    omega (arith, first-made, block-below r g p 0 (block-high r g), described-few _ _ (fit-of r g p .is-described)),
+  )
 
-  pub block-made : (e : ℕ) → e ≡ s .base + z .first * s .layer + y .first * s .row + x .first
-      → record { first = e; inline = x .span; crossline = y .span; vertical = z .span; row = s .row; layer = s .layer } ≡ blockOf r g
-  unfolding blockOf stepsOf
-  block-made e q = rw (q, first-made, es, ex, ey, ez)
+  pub layer-small : Passed r g → v .inline * v .crossline ≤ 18446744073709551615
+  layer-small p =
+      let m = halved-small (g .level) (small (r .description) (sized-of r g p)) in
+      rw ev (omega (arith, small-two (m .inline) (m .crossline)))
+
+  pub block-made : (e : ℕ) → e ≡ entryAt v (x .first) (y .first) (z .first)
+      → record { first = e; inline = x .span; crossline = y .span; vertical = z .span; row = v .inline; layer = v .inline * v .crossline } ≡ blockOf r g
+  unfolding blockOf
+  block-made e q = rw (q, first-made, ev, ex, ey, ez)
 
 -- ---- one entry
 

@@ -6,10 +6,8 @@ use mathlib.Core.Path.{_≡_}
 use Prim.Native.Nat.{ℕ, suc, _+_, _-_, _*_, _/_, _≤_, _<_}
 use lib.ListN.{length}
 use Rattle.endian.specs.Loops.{cat}
-use Rattle.geometry.specs.Geometry.{levelBase}
 use Rattle.record.specs.Types.{widthOf}
-use Rattle.record.specs.Record.{sideOf, countOf, bricksAlong, bricksOf, brickBytesOf, tableOf, headerOf}
-use Rattle.record.specs.declared.Description.{Description}
+use Rattle.record.specs.Record.{sideOf, bricksAlong, bricksOf, brickBytesOf, tableOf, headerOf}
 use Rattle.record.specs.declared.Record.{Record}
 use Rattle.record.specs.declared.Verdict.{Verdict}
 use Rattle.record.specs.declared.Verdict.the-variants.{Taken}
@@ -25,7 +23,6 @@ use Rattle.regions.specs.declared.Found.{Found}
 use Rattle.regions.specs.declared.Found.the-variants.{At, Nothing}
 use Rattle.regions.specs.declared.Entries.{Entries}
 use Rattle.regions.specs.declared.Along.{Along}
-use Rattle.regions.specs.declared.Steps.{Steps}
 use Rattle.regions.specs.declared.Block.{Block}
 
 -- what a search says of the entry that it found
@@ -88,14 +85,6 @@ Below b n = (z : ℕ) → z < b .vertical → (b .first + z * b .layer ≤ n) ×
 -- the bricks of side s that a run touches: the first, and how many
 abbrev pub alongOf : ℕ → ℕ → ℕ → Along
 alongOf s a c = record { first = a / s; span = suc ((a + c - 1) / s - a / s) }
-
--- the entries before level l, from one row of bricks to the next, and from one layer to the next
-unfoldable pub stepsOf : Description → ℕ → Steps
-stepsOf d l = record {
-  base = levelBase (countOf d 0) (countOf d 1) (countOf d 2) l;
-  row = bricksAlong d l 0;
-  layer = bricksAlong d l 0 * bricksAlong d l 1;
-}
 
 -- the entries that a region touches
 unfoldable pub blockOf : Record → Region → Block

@@ -2,9 +2,9 @@
 // All are done before a byte moves. Their cost grows with the bricks that the region touches, never with the cube.
 use checks::check14_with;
 use cube::Region;
+use geometry::entry_at;
 use geometry::extent_at;
 use geometry::table_start;
-use record::Description;
 use record::Record;
 use record::Verdict;
 use record::brick_bytes_in;
@@ -12,7 +12,7 @@ use record::refuse;
 use record::refuse_at;
 use record::width_of;
 use runs::index;
-use runs::level_of;
+use runs::level_in;
 use runs::over;
 use table::Kind;
 use table::kind_at;
@@ -22,14 +22,12 @@ ghost use Prim.Native.Nat.{_+_, _*_, _≤_, _<_};
 ghost use lib.Dec.{leb};
 ghost use lib.ListN.{length};
 ghost use Rattle.geometry.specs.Geometry.{extent};
-ghost use Rattle.record.specs.Record.{levelsOf, Sized};
 ghost use Rattle.checks.specs.Checks.{sideOk};
 ghost use Rattle.checks.specs.Fits.{recordFits};
 ghost use Rattle.table.specs.Entries.{outOfRange};
 ghost use Rattle.table.specs.declared.Kind.the-variants.{Stored};
-ghost use Rattle.runs.specs.Runs.{Sides};
 ghost use Rattle.cube.specs.Regions.{sizeOf, inExtent, touched, badRange, find, unlessIn, regionVerdict, rawVerdict, floatVerdict, writeVerdict};
-ghost use Rattle.regions.specs.Search.{foundOf, entriesOf, fails, Readable, rowFrom, layerFrom, entriesIn, LayerBelow, Below, alongOf, stepsOf, blockOf, Passed, rest};
+ghost use Rattle.regions.specs.Search.{foundOf, entriesOf, fails, Readable, rowFrom, layerFrom, entriesIn, LayerBelow, Below, alongOf, blockOf, Passed, rest};
 
 // What a search over entries finds: the first that fails, or none.
 enum Found {
@@ -51,13 +49,6 @@ struct Entries {
 struct Along {
     first: u64,
     span: u64,
-}
-
-// How entries are numbered in a level: those before it, and how far apart neighbours crossline and vertical are.
-struct Steps {
-    base: u64,
-    row: u64,
-    layer: u64,
 }
 
 // The entries that a region touches: the first, how many in each direction, and how far apart neighbours are.
@@ -143,28 +134,6 @@ fn bricks_along(side: u32, start: u32, count: u32) -> Along
     }
 }
 
-// How the entries of a level are numbered.
-fn steps_of(d: Description, level: u32) -> Steps
-    requires { ⌜ Sized d × Sides d × (level < levelsOf d) ⌝ }
-    ensures { λ s. ⌜ s ≡ stepsOf d level ⌝ }
-{
-    let l = level_of(d, level);
-    let row = l.inline;
-    Steps {
-        base: l.base,
-        row,
-        layer: row * l.crossline,
-    }
-}
-
-// The entry of brick (x, y, z) of a level.
-fn entry_at(s: Steps, x: u64, y: u64, z: u64) -> u64
-    requires { ⌜ s .base + z * s .layer + y * s .row + x ≤ 18446744073709551615 ⌝ }
-    ensures { λ e. ⌜ e ≡ s .base + z * s .layer + y * s .row + x ⌝ }
-{
-    s.base + z * s.layer + y * s.row + x
-}
-
 // The entries that a region touches.
 fn block_of(r: Record, g: Region) -> Block
     requires { ⌜ Passed r g ⌝ }
@@ -174,17 +143,17 @@ fn block_of(r: Record, g: Region) -> Block
     let side = d.side;
     let start = g.start;
     let count = g.count;
-    let s = steps_of(d, g.level);
+    let v = level_in(d, r.bricks, g.level);
     let x = bricks_along(side[0], start[0], count[0]);
     let y = bricks_along(side[1], start[1], count[1]);
     let z = bricks_along(side[2], start[2], count[2]);
     Block {
-        first: entry_at(s, x.first, y.first, z.first),
+        first: entry_at(v, x.first, y.first, z.first),
         inline: x.span,
         crossline: y.span,
         vertical: z.span,
-        row: s.row,
-        layer: s.layer,
+        row: v.inline,
+        layer: v.inline * v.crossline,
     }
 }
 

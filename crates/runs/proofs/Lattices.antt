@@ -8,10 +8,11 @@ use native.Mathlib.Nat.{mod-lt, mul-le-mul, le-trans, lt-of-lt-of-le, le-mul-of-
 use lib.ListN.{length}
 use lib.Count.{trailingZeros}
 use Rattle.endian.specs.Loops.{tri}
-use Rattle.geometry.specs.Geometry.{tableStart}
+use Rattle.geometry.specs.Geometry.{entryAt, tableStart}
+use Rattle.geometry.specs.declared.Level.{Level}
 use Rattle.geometry.proofs.Levels.{half-le}
 use Rattle.geometry.proofs.Entries.{entry-is}
-use Rattle.record.specs.Record.{sideOf, countOf, bricksAlong, levelsOf, tableOf, headerOf, Sized}
+use Rattle.record.specs.Record.{sideOf, countOf, bricksAlong, levelsOf, bricksOf, tableOf, headerOf, Sized}
 use Rattle.record.specs.declared.Record.{Record}
 use Rattle.record.proofs.Laws.{small, alphas-few}
 use Rattle.checks.specs.Checks.{sideOk}
@@ -23,9 +24,8 @@ use Rattle.cube.specs.declared.Region.{Region}
 use Rattle.cube.specs.Places.{itemBytes, kindIn, entryIn, brickOf, itemNo, Inside}
 use Rattle.cube.specs.Regions.{startOf, runOf, place}
 use Rattle.cube.proofs.Places.{brick-of, brick-lt, item-lt}
-use Rattle.runs.specs.declared.Level.{Level}
 use Rattle.runs.specs.declared.Lattice.{Lattice}
-use Rattle.runs.specs.Runs.{Sides, levelOf, latticeOf, Allowed, Placed}
+use Rattle.runs.specs.Runs.{Sides, levelIn, latticeOf, Allowed, Placed}
 
 -- a side is the power of two that its zeros say
 pub side-power : (n : ℕ) → sideOk n ≡ true → (2 ^ trailingZeros 64 n ≡ n) × (trailingZeros 64 n < 64)
@@ -60,8 +60,8 @@ pub record Numbers (q : Lattice) (i j k : ℕ) : Type 0 where
   pub at0 : q .start0 + i < 67108864
   pub at1 : q .start1 + j < 67108864
   pub at2 : q .start2 + k < 67108864
-  pub entry : Parts (q .crossline) (q .inline) ((q .start2 + k) / q .side2) ((q .start1 + j) / q .side1) ((q .start0 + i) / q .side0)
-  pub entries : q .base + tri (q .crossline) (q .inline) ((q .start2 + k) / q .side2) ((q .start1 + j) / q .side1) ((q .start0 + i) / q .side0) < 16384
+  pub inline : (q .start0 + i) / q .side0 < q .level .inline
+  pub entry : entryAt (q .level) ((q .start0 + i) / q .side0) ((q .start1 + j) / q .side1) ((q .start2 + k) / q .side2) < 16384
   pub item : Parts (q .side1) (q .side2) ((q .start0 + i) % q .side0) ((q .start1 + j) % q .side1) ((q .start2 + k) % q .side2)
   pub items : tri (q .side1) (q .side2) ((q .start0 + i) % q .side0) ((q .start1 + j) % q .side1) ((q .start2 + k) % q .side2) < 16777216
 
@@ -71,10 +71,9 @@ index-small s n x hs hn h = lt-of-lt-of-le h (mul-le-mul hn hs)
 
 module _ (r : Record) (g : Region) (i j k : ℕ) where
   -- its entry, by the lattice
-  entry-on : latticeOf r g .base
-      + tri (latticeOf r g .crossline) (latticeOf r g .inline) ((latticeOf r g .start2 + k) / latticeOf r g .side2) ((latticeOf r g .start1 + j) / latticeOf r g .side1) ((latticeOf r g .start0 + i) / latticeOf r g .side0)
+  entry-on : entryAt (latticeOf r g .level) ((latticeOf r g .start0 + i) / latticeOf r g .side0) ((latticeOf r g .start1 + j) / latticeOf r g .side1) ((latticeOf r g .start2 + k) / latticeOf r g .side2)
       ≡ brickOf r (place g i j k)
-  unfolding latticeOf levelOf brickOf entryIn
+  unfolding latticeOf brickOf entryIn
   entry-on = sym (entry-is (countOf (r .description) 0) (countOf (r .description) 1) (countOf (r .description) 2) (g .level) _ _ _)
 
   module _ (ok : Fit r) (h : Inside r (place g i j k)) where
@@ -87,7 +86,7 @@ module _ (r : Record) (g : Region) (i j k : ℕ) where
         lt-of-lt-of-le (item-lt r ok (place g i j k)) (mul-le-mul (mul-le-mul (s .side0 .high) (s .side1 .high)) (s .side2 .high))
 
     numbers-of : Numbers (latticeOf r g) i j k
-    unfolding latticeOf levelOf itemNo
+    unfolding latticeOf itemNo
     numbers-of =
         let s = described-sized _ _ (ok .is-described) in
         let o = described-sides _ _ (ok .is-described) in
@@ -104,8 +103,8 @@ module _ (r : Record) (g : Region) (i j k : ℕ) where
           at0 = index-small _ (bricksAlong (r .description) (g .level) 0) _ (s .side0 .high) (le-trans (half-le _ (g .level)) (m .inline)) (h .has-i);
           at1 = index-small _ (bricksAlong (r .description) (g .level) 1) _ (s .side1 .high) (le-trans (half-le _ (g .level)) (m .crossline)) (h .has-j);
           at2 = index-small _ (bricksAlong (r .description) (g .level) 2) _ (s .side2 .high) (le-trans (half-le _ (g .level)) (m .vertical)) (h .has-k);
-          entry = parts _ _ _ _ _ (b .inline);
-          entries = rw entry-on few;
+          inline = b .inline;
+          entry = rw entry-on few;
           item = parts _ _ _ _ _ (mod-lt (startOf g 2 + k) p2);
           items = items-few;
         }
@@ -118,9 +117,9 @@ module _ (r : Record) (g : Region) (q : Lattice) (i j k : ℕ) (p : Placed r g q
   numbers = subst (λ (x : Lattice). Numbers x i j k) (sym (p .laid)) (numbers-of r g i j k fit-of (p .inside))
 
   -- what the functions make of the lattice's numbers
-  pub entry-made : q .base + ((((q .start2 + k) / q .side2) * q .crossline + (q .start1 + j) / q .side1) * q .inline + (q .start0 + i) / q .side0) ≡ brickOf r (place g i j k)
+  pub entry-made : entryAt (q .level) ((q .start0 + i) / q .side0) ((q .start1 + j) / q .side1) ((q .start2 + k) / q .side2) ≡ brickOf r (place g i j k)
   entry-made =
-      ap (λ (x : Lattice). x .base + ((((x .start2 + k) / x .side2) * x .crossline + (x .start1 + j) / x .side1) * x .inline + (x .start0 + i) / x .side0)) (p .laid)
+      ap (λ (x : Lattice). entryAt (x .level) ((x .start0 + i) / x .side0) ((x .start1 + j) / x .side1) ((x .start2 + k) / x .side2)) (p .laid)
       ∙ entry-on r g i j k
 
   pub item-made : (((q .start0 + i) % q .side0) * q .side1 + (q .start1 + j) % q .side1) * q .side2 + (q .start2 + k) % q .side2 ≡ itemNo r (place g i j k)
@@ -155,14 +154,12 @@ module _ (r : Record) (g : Region) (h : Allowed r g) where
   allowed-fit : Fit r
   allowed-fit = fits-all r (h .fitting)
 
-  pub allowed-sized : Sized (r .description)
+  allowed-sized : Sized (r .description)
   allowed-sized = described-sized _ _ (allowed-fit .is-described)
 
-  pub allowed-sides : Sides (r .description)
-  allowed-sides = described-sides _ _ (allowed-fit .is-described)
-
-  pub allowed-level : g .level < levelsOf (r .description)
-  allowed-level = rw (← allowed-fit .levels-is) (h .leveled)
+  -- what `level_in` asks of the record and the region's level
+  pub level-asks : Sized (r .description) × Sides (r .description) × (r .bricks ≡ bricksOf (r .description)) × (g .level < levelsOf (r .description))
+  level-asks = (allowed-sized, described-sides _ _ (allowed-fit .is-described), allowed-fit .bricks-is, rw (← allowed-fit .levels-is) (h .leveled))
 
   pub table-small : (r .text ≤ 65536) × (r .alphas ≤ 1048576)
   table-small = (
@@ -174,14 +171,12 @@ module _ (r : Record) (g : Region) (h : Allowed r g) where
   unfolding latticeOf tableOf
   table-made t x y e ex ey = e ∙ rw (ex, ey, allowed-fit .alphas-is)
 
-  pub lattice-made : (v : Level) (t s0 s1 s2 w a0 a1 a2 n0 n1 n2 : ℕ) → v ≡ levelOf (r .description) (g .level) → t ≡ latticeOf r g .table
+  pub lattice-made : (v : Level) (t s0 s1 s2 w a0 a1 a2 n0 n1 n2 : ℕ) → v ≡ levelIn (r .description) (g .level) → t ≡ latticeOf r g .table
       → s0 ≡ sideOf (r .description) 0 → s1 ≡ sideOf (r .description) 1 → s2 ≡ sideOf (r .description) 2 → w ≡ itemBytes r
       → a0 ≡ startOf g 0 → a1 ≡ startOf g 1 → a2 ≡ startOf g 2 → n0 ≡ runOf g 0 → n1 ≡ runOf g 1 → n2 ≡ runOf g 2
       → record {
         table = t;
-        base = v .base;
-        inline = v .inline;
-        crossline = v .crossline;
+        level = v;
         side0 = s0;
         side1 = s1;
         side2 = s2;

@@ -4,8 +4,9 @@ use mathlib.Core.List.{List}
 use mathlib.Core.Path.{_≡_}
 use Prim.Native.Nat.{ℕ, _+_, _≤_, _<_}
 use lib.ListN.{length}
-use Rattle.geometry.specs.Geometry.{levelBase}
-use Rattle.record.specs.Record.{sideOf, countOf, bricksAlong, tableOf, headerOf, brickBytesOf}
+use Rattle.geometry.specs.Geometry.{levelOf}
+use Rattle.geometry.specs.declared.Level.{Level}
+use Rattle.record.specs.Record.{sideOf, countOf, tableOf, headerOf, brickBytesOf}
 use Rattle.record.specs.declared.Description.{Description}
 use Rattle.record.specs.declared.Record.{Record}
 use Rattle.checks.specs.Checks.{sideOk}
@@ -14,28 +15,21 @@ use Rattle.table.specs.declared.Kind.the-variants.{Stored}
 use Rattle.cube.specs.declared.Region.{Region}
 use Rattle.cube.specs.Places.{itemBytes, kindIn, brickOf, Inside}
 use Rattle.cube.specs.Regions.{startOf, runOf, place}
-use Rattle.runs.specs.declared.Level.{Level}
 use Rattle.runs.specs.declared.Lattice.{Lattice}
 
 -- the sides are the format's
 abbrev pub Sides : Description → Type 0
 Sides d = (sideOk (sideOf d 0) ≡ true) × (sideOk (sideOf d 1) ≡ true) × (sideOk (sideOf d 2) ≡ true)
 
--- the entries before level l, and its bricks inline and crossline
-unfoldable pub levelOf : Description → ℕ → Level
-levelOf d l = record {
-  base = levelBase (countOf d 0) (countOf d 1) (countOf d 2) l;
-  inline = bricksAlong d l 0;
-  crossline = bricksAlong d l 1;
-}
+-- what numbers the bricks of level l
+abbrev pub levelIn : Description → ℕ → Level
+levelIn d l = levelOf (countOf d 0) (countOf d 1) (countOf d 2) l
 
 -- the lattice of a region
 unfoldable pub latticeOf : Record → Region → Lattice
 latticeOf r g = record {
   table = tableOf (r .description) (r .text);
-  base = levelOf (r .description) (g .level) .base;
-  inline = levelOf (r .description) (g .level) .inline;
-  crossline = levelOf (r .description) (g .level) .crossline;
+  level = levelIn (r .description) (g .level);
   side0 = sideOf (r .description) 0;
   side1 = sideOf (r .description) 1;
   side2 = sideOf (r .description) 2;

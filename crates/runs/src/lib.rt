@@ -1,8 +1,9 @@
 // Vertical runs: where the samples of a region lie in the bricks of its level. Raw reads, float reads and writes share this.
 // A record and a region that stand beside a lattice are what its promises are stated in; the code works with the lattice alone.
 use cube::Region;
-use geometry::halved;
-use geometry::level_base;
+use geometry::Level;
+use geometry::entry_at;
+use geometry::level_of;
 use geometry::table_start;
 use record::Description;
 use record::Record;
@@ -15,26 +16,16 @@ ghost use Prim.Native.Nat.{_+_, _-_, _/_, _%_, _<_, _≤_, min};
 ghost use lib.ListN.{length};
 ghost use Rattle.geometry.specs.Geometry.{ceilDiv};
 ghost use Rattle.checks.specs.Checks.{sideOk};
-ghost use Rattle.record.specs.Record.{sideOf, levelsOf, Sized};
+ghost use Rattle.record.specs.Record.{sideOf, levelsOf, bricksOf, Sized};
 ghost use Rattle.cube.specs.Places.{kindIn, brickOf, itemNo};
 ghost use Rattle.cube.specs.Regions.{startOf, place};
-ghost use Rattle.runs.specs.Runs.{Sides, levelOf, latticeOf, Allowed, Placed};
-
-// How the entries of a level are numbered: those before it, and its bricks inline and crossline.
-pub struct Level {
-    pub base: u64,
-    pub inline: u64,
-    pub crossline: u64,
-}
+ghost use Rattle.runs.specs.Runs.{Sides, levelIn, latticeOf, Allowed, Placed};
 
 // A region among the bricks of its level, worked out once for a call.
 pub struct Lattice {
-    // Where the brick table starts, and the entries before those of the level.
+    // Where the brick table starts, and what numbers the bricks of the level.
     pub table: usize,
-    pub base: usize,
-    // The level's bricks inline and crossline.
-    pub inline: usize,
-    pub crossline: usize,
+    pub level: Level,
     // The sides of a brick, and the bytes of an item.
     pub side0: usize,
     pub side1: usize,
@@ -77,21 +68,17 @@ fn bricks_over(size: u32, side: u32) -> u64
     over(index(size) + (index(side) - 1), index(side)) as u64
 }
 
-pub fn level_of(d: Description, level: u32) -> Level
-    requires { ⌜ Sized d × Sides d × (level < levelsOf d) ⌝ }
-    ensures { λ v. ⌜ v ≡ levelOf d level ⌝ }
+// A level of a cube with this description and so many bricks in all levels.
+pub fn level_in(d: Description, bricks: u32, level: u32) -> Level
+    requires { ⌜ Sized d × Sides d × (bricks ≡ bricksOf d) × (level < levelsOf d) ⌝ }
+    ensures { λ v. ⌜ v ≡ levelIn d level ⌝ }
 {
     let size = d.size;
     let side = d.side;
-    let l = wide(level);
     let a = bricks_over(size[0], side[0]);
     let b = bricks_over(size[1], side[1]);
     let c = bricks_over(size[2], side[2]);
-    Level {
-        base: level_base(a, b, c, l),
-        inline: halved(a, l),
-        crossline: halved(b, l),
-    }
+    level_of(a, b, c, wide(bricks), wide(level))
 }
 
 // The lattice of a region.
@@ -103,12 +90,10 @@ pub fn lattice_of(r: Record, g: Region) -> Lattice
     let side = d.side;
     let start = g.start;
     let count = g.count;
-    let level = level_of(d, g.level);
+    let level = level_in(d, r.bricks, g.level);
     Lattice {
         table: table_start(wide(r.text), wide(r.alphas)) as usize,
-        base: level.base as usize,
-        inline: level.inline as usize,
-        crossline: level.crossline as usize,
+        level,
         side0: index(side[0]),
         side1: index(side[1]),
         side2: index(side[2]),
@@ -130,7 +115,7 @@ fn beyond(x: usize, side: usize) -> usize
     x - over(x, side) * side
 }
 
-// The entry of the brick that holds a sample of the region: inline runs fastest, vertical slowest.
+// The entry of the brick that holds a sample of the region.
 fn entry_on(r: Record, g: Region, q: Lattice, i: usize, j: usize, k: usize) -> usize
     requires { ⌜ Placed r g q i j k ⌝ }
     ensures { λ e. ⌜ e ≡ brickOf r (place g i j k) ⌝ }
@@ -138,7 +123,7 @@ fn entry_on(r: Record, g: Region, q: Lattice, i: usize, j: usize, k: usize) -> u
     let x = over(q.start0 + i, q.side0);
     let y = over(q.start1 + j, q.side1);
     let z = over(q.start2 + k, q.side2);
-    q.base + ((z * q.crossline + y) * q.inline + x)
+    entry_at(q.level, x as u64, y as u64, z as u64) as usize
 }
 
 // What the brick that holds a sample of the region is.

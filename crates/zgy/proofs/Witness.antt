@@ -33,7 +33,8 @@ use Rattle.zgy.specs.Ledger.{Call, rawRead, floatRead, write, raw, float
 use Rattle.zgy.specs.Demands.{AfterRun, OnePlaceOneSample}
 use Rattle.zgy.proofs.Whole.{one-place-one-sample}
 
--- size (9, 4, 4), side 4, int8 with the range -1280 to 1270, five zero bytes of text: the headers end at 2,511, where brick 0 starts
+-- size (9, 4, 4), side 4, int8 with the range -1280 to 1270, five zero bytes of text. Entries 0 to 2 are of levels 2 and 1. Of level 0,
+-- entry 3 is stored from 2,511 on, where the headers end, entry 4 is constant, and entry 5 is missing
 unfoldable pub cube : List ℕ
 cube =
     (86 ∷ 66 ∷ 83 ∷ 0 ∷ 3 ∷ 0 ∷ 0 ∷ 0 ∷ 0 ∷ [])
@@ -44,9 +45,10 @@ cube =
     ++ replicate 227 0
     ++ (5 ∷ 0 ∷ 0 ∷ 0 ∷ [])
     ++ replicate 2117 0
+    ++ replicate 24 0
     ++ (207 ∷ 9 ∷ 0 ∷ 0 ∷ 0 ∷ 0 ∷ 0 ∷ 0 ∷ [])
     ++ (255 ∷ 0 ∷ 0 ∷ 0 ∷ 0 ∷ 0 ∷ 0 ∷ 128 ∷ [])
-    ++ replicate 32 0
+    ++ replicate 8 0
     ++ cat 64 (λ i. i ∷ [])
 
 header-taken : headerVerdict cube ≡ verdict.Taken
@@ -97,8 +99,8 @@ answers : Record → List ℕ → List Call → List Done
 answers r f [] = []
 answers r f (c ∷ cs) = answerOf r f c ∷ answers r (cubeStep r f c) cs
 
--- the second write is refused 19 for entry 1 and leaves the first one's bytes; int8 -128 to 127 are scaled to -1280 to 1270; a missing brick reads as 0; two items of each buffer stay
-computed : (answers (recordIn cube) cube calls ≡ Taken 2 ∷ Refused (record { number = 19; entry = 1 }) ∷ Taken 12 ∷ Taken 12 ∷ [])
+-- the second write is refused 19 for entry 4 and leaves the first one's bytes; int8 -128 to 127 are scaled to -1280 to 1270; a missing brick reads as 0; two items of each buffer stay
+computed : (answers (recordIn cube) cube calls ≡ Taken 2 ∷ Refused (record { number = 19; entry = 4 }) ∷ Taken 12 ∷ Taken 12 ∷ [])
     × (given (recordIn cube) cube calls
     ≡ raw (7 ∷ 9 ∷ [])
     ∷ raw (1 ∷ 2 ∷ 3 ∷ 4 ∷ [])

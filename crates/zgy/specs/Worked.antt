@@ -31,7 +31,7 @@ pub record WorkedNumbers : Type 0 where
   -- text 5 there: the end of the headers
   pub case2 : headerEnd 5 (alphas 2 1 3) (bricks 2 1 3) ≡ 2519
   -- there, level 0 brick (1, 0, 2) and level 1 brick (0, 0, 1)
-  pub case3 : (entryOf 2 1 3 0 1 0 2 ∷ entryOf 2 1 3 1 0 0 1 ∷ []) ≡ (5 ∷ 7 ∷ [])
+  pub case3 : (entryOf 2 1 3 0 1 0 2 ∷ entryOf 2 1 3 1 0 0 1 ∷ []) ≡ (8 ∷ 2 ∷ [])
   -- there, sample (70, 5, 130): inside its brick, its item, and its byte in int16
   pub case4 : (70 % 64 ∷ 5 % 64 ∷ 130 % 64 ∷ itemOf 64 64 6 5 2 ∷ itemOf 64 64 6 5 2 * 2 ∷ []) ≡ (6 ∷ 5 ∷ 2 ∷ 24898 ∷ 49796 ∷ [])
   -- size (9, 4, 4), side 4: the bricks of each level and of all; the extent of level 1

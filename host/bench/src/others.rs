@@ -7,7 +7,7 @@ use crate::table::{Goal, Job, Report, Row};
 use std::hint::black_box;
 use zgy::{Cube, Fill, Record};
 
-/// A cube of two bricks of 64, of which the second, entry 1, is constant; and a filler for that one.
+/// A cube of two levels in bricks of 64, whose entry 1, the first brick of level 0, is constant; and a filler for that one.
 struct Bench {
     file: Vec<u8>,
     cube: Record,

@@ -157,19 +157,27 @@ pub fn brick_bytes(description: &Description) -> u64 {
     description.side.iter().map(|&side| u64::from(side)).product::<u64>() * item_bytes(description.datatype) as u64
 }
 
-/// The levels of sides and sizes that checks 4 and 6 let pass.
+/// The levels, from 0 on, of sides and sizes that checks 4 and 6 let pass.
 pub fn levels(description: &Description) -> Vec<Level> {
     let mut levels: Vec<Level> = Vec::new();
     let mut bricks: [u64; 3] = std::array::from_fn(|d| u64::from(description.size[d].div_ceil(description.side[d])));
-    let mut first = 0;
     loop {
         let scale = 1 << levels.len();
-        levels.push(Level { extent: description.size.map(|size| size.div_ceil(scale)), bricks, first });
+        levels.push(Level { extent: description.size.map(|size| size.div_ceil(scale)), bricks, first: 0 });
         if bricks == [1; 3] {
+            number_entries(&mut levels);
             return levels;
         }
-        first += bricks.iter().product::<u64>();
         bricks = bricks.map(|n| n.div_ceil(2));
+    }
+}
+
+/// The brick table starts with the highest level and ends with level 0.
+fn number_entries(levels: &mut [Level]) {
+    let mut first = 0;
+    for level in levels.iter_mut().rev() {
+        level.first = first;
+        first += level.bricks.iter().product::<u64>();
     }
 }
 
@@ -390,7 +398,8 @@ pub fn places(region: Region) -> impl Iterator<Item = [u32; 3]> {
     })
 }
 
-/// The brick of a place, as its entry, and the place's item number inside the brick.
+/// The brick of a place, as its entry, and the place's item number inside the brick. Inside a level inline runs fastest and
+/// vertical slowest; inside a brick it is the other way round.
 pub fn place(description: &Description, level: &Level, at: [u32; 3]) -> (u32, u64) {
     let brick: [u64; 3] = std::array::from_fn(|d| u64::from(at[d] / description.side[d]));
     let inside: [u64; 3] = std::array::from_fn(|d| u64::from(at[d] % description.side[d]));

@@ -196,10 +196,10 @@ fn worked_numbers_3_and_4() {
         let brick = 64 * 64 * 64 * 2;
         let sample = |level, start| Region { level, start, count: [1; 3] };
         trial.write(&record, &mut cube.file, sample(0, [70, 5, 130]), &[0x12, 0x34]).unwrap();
-        let at = 2519 + 5 * brick + 49_796;
+        let at = 2519 + 8 * brick + 49_796;
         assert_eq!(cube.file[at..at + 2], [0x12, 0x34]);
         trial.write(&record, &mut cube.file, sample(1, [0, 0, 64]), &[0x56, 0x78]).unwrap();
-        let at = 2519 + 7 * brick;
+        let at = 2519 + 2 * brick;
         assert_eq!(cube.file[at..at + 2], [0x56, 0x78]);
     });
 }

@@ -35,6 +35,10 @@ pub struct Grid {
 }
 
 /// What opening says of a cube. Keep it beside the cube's bytes and pass it with them.
+///
+/// Entries number the bricks of all levels, as the brick table has them. The highest level's single brick is entry 0, the levels
+/// below it follow in turn, and level 0 comes last: the last brick of level 0 is entry `bricks - 1`. Inside a level inline runs
+/// fastest and vertical slowest.
 #[repr(C)]
 #[derive(Clone, Copy, Debug, PartialEq)]
 pub struct Record {

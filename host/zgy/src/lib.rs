@@ -94,7 +94,7 @@ impl Cube {
 }
 
 impl Record {
-    /// What the brick of an entry is. Refusals 14, 16, 12.
+    /// What the brick of an entry is; [`Record`] says how entries are numbered. Refusals 14, 16, 12.
     pub fn brick_kind(&self, file: &[u8], entry: u32) -> Result<Brick, Refusal> {
         let answer = unsafe { zgy_brick_kind(file.as_ptr(), file.len(), *self, entry) };
         taken(answer.number, answer.entry)?;
@@ -105,8 +105,8 @@ impl Record {
         })
     }
 
-    /// The bytes of a brick without a copy: its part of the file, or the front of `filler` for one that is not stored, which has to
-    /// hold its storage bytes again and again. Refusals 14, 16, 12, 18, 17.
+    /// The bytes of an entry's brick without a copy: its part of the file, or the front of `filler` for one that is not stored,
+    /// which has to hold its storage bytes again and again. Refusals 14, 16, 12, 18, 17.
     pub fn brick_view<'a>(&self, file: &'a [u8], filler: &'a [u8], entry: u32) -> Result<&'a [u8], Refusal> {
         let view = unsafe { zgy_brick_view(file.as_ptr(), file.len(), filler.as_ptr(), filler.len(), *self, entry) };
         taken(view.number, view.entry)?;

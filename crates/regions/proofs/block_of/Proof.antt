@@ -1,14 +1,16 @@
 -- `regions::block_of` meets its contract. Assumes nothing.
+use native.Mathlib.Omega.{arith}
 use Rattle.checks.proofs.Described.{described-sides}
-use Rattle.regions.proofs.Blocks.{fit-of, sized-of, runs-of, first-small, block-made}
+use Rattle.runs.proofs.Lattices.{level-asks}
+use Rattle.regions.proofs.Blocks.{fit-of, runs-of, first-ok, layer-small, block-made}
 use borrow.Author.Needs.{needs}
 use Rattle.regions.proofs.block_of.Statement.{statement}
 use Rattle.regions.proofs.block_of.Tie as tie
 
-steps-of-requires : tie.Need-steps-of-requires
-steps-of-requires c κs =
+level-in-requires : tie.Need-level-in-requires
+level-in-requires c κs =
     let s = c .before .before .before .before in
-    (sized-of (s .args .r) (s .args .g) (s .pre), described-sides _ _ (fit-of (s .args .r) (s .args .g) (s .pre) .is-described), rw (← fit-of (s .args .r) (s .args .g) (s .pre) .levels-is) (s .pre .leveled))
+    level-asks (s .args .r) (s .args .g) (record { fitting = s .pre .fitting; leveled = s .pre .leveled })
 
 array-read-bricks-along : tie.Need-array-read-bricks-along
 array-read-bricks-along c = search needs
@@ -55,18 +57,25 @@ bricks-along-requires-3 c κs =
 entry-at-requires : tie.Need-entry-at-requires
 entry-at-requires c κs =
     let s = c .before .before .before .before .before .before .before .before in
-    first-small (s .args .r) (s .args .g) _ _ _ _ (c .before .before .before .steps-of .ensures) (c .before .before .bricks-along .ensures) (c .before .bricks-along2 .ensures) (c .bricks-along3 .ensures) (s .pre)
+    first-ok (s .args .r) (s .args .g) _ _ _ _ (c .before .before .before .level-in .ensures) (c .before .before .bricks-along .ensures) (c .before .bricks-along2 .ensures) (c .bricks-along3 .ensures) (s .pre)
+
+mul-t33 : tie.Need-mul-t33
+mul-t33 c =
+    let b = c .before .before in
+    let s = b .before .before .before .before .before .before .before .before in
+    record { fits = omega (arith, layer-small (s .args .r) (s .args .g) _ _ _ _ (b .before .before .before .level-in .ensures) (b .before .before .bricks-along .ensures) (b .before .bricks-along2 .ensures) (b .bricks-along3 .ensures) (s .pre)) }
 
 returns : tie.Need-returns
 returns c =
-    let s = c .before .before .before .before .before .before .before .before .before in
-    block-made (s .args .r) (s .args .g) _ _ _ _ (c .before .before .before .before .steps-of .ensures) (c .before .before .before .bricks-along .ensures) (c .before .before .bricks-along2 .ensures) (c .before .bricks-along3 .ensures) _ (c .entry-at .ensures)
+    let b = c .before .before in
+    let s = b .before .before .before .before .before .before .before .before in
+    block-made (s .args .r) (s .args .g) _ _ _ _ (b .before .before .before .level-in .ensures) (b .before .before .bricks-along .ensures) (b .before .bricks-along2 .ensures) (b .bricks-along3 .ensures) _ (c .before .entry-at .ensures)
 
 pub block-of-spec : {M : Type 1} → statement M
 block-of-spec =
     tie.close
     (tie.spec
-    steps-of-requires
+    level-in-requires
     array-read-bricks-along
     array-read-bricks-along-2
     array-read-bricks-along-3
@@ -80,4 +89,5 @@ block-of-spec =
     array-read-bricks-along-9
     bricks-along-requires-3
     entry-at-requires
+    mul-t33
     returns)

@@ -1,4 +1,5 @@
 -- `runs::entry_on` meets its contract. Assumes nothing.
+use mathlib.Core.Path.{_∙_}
 use native.Mathlib.Omega.{arith}
 use Rattle.runs.proofs.Lattices.{Numbers, numbers, entry-made}
 use Rattle.runs.proofs.entry_on.Statement.{statement}
@@ -25,25 +26,17 @@ add-over-3 c = omega (arith, known (c .before .before .before .before .before))
 over-requires-3 : tie.Need-over-requires-3
 over-requires-3 c κs = known (c .before .before .before .before .before) .ok2
 
-mul-result : tie.Need-mul-result
-mul-result c = rw (c .before .over3 .ensures) (omega (arith, known (c .before .before .before .before .before .before .before)))
-
-add-result : tie.Need-add-result
-add-result c = rw (c .before .over3 .ensures, c .before .before .before .over2 .ensures) (omega (arith, known (c .before .before .before .before .before .before .before)))
-
-mul-result-2 : tie.Need-mul-result-2
-mul-result-2 c = rw (c .before .before .over3 .ensures, c .before .before .before .before .over2 .ensures) (omega (arith, known (c .before .before .before .before .before .before .before .before)))
-
-add-result-2 : tie.Need-add-result-2
-add-result-2 c = rw (c .before .before .over3 .ensures, c .before .before .before .before .over2 .ensures, c .before .before .before .before .before .before .over .ensures) (omega (arith, known (c .before .before .before .before .before .before .before .before)))
-
-add-result-3 : tie.Need-add-result-3
-add-result-3 c = rw (c .before .before .before .over3 .ensures, c .before .before .before .before .before .over2 .ensures, c .before .before .before .before .before .before .before .over .ensures) (omega (arith, known (c .before .before .before .before .before .before .before .before .before)))
+entry-at-requires : tie.Need-entry-at-requires
+entry-at-requires c κs =
+    let n = known (c .before .before .before .before .before .before) in
+    rw (c .over3 .ensures, c .before .before .over2 .ensures, c .before .before .before .before .over .ensures) (n .inline, omega (arith, n .entry))
 
 returns : tie.Need-returns
 returns c =
-    let s = c .before .before .before .before .before .before .before .before .before in
-    rw (c .before .before .before .over3 .ensures, c .before .before .before .before .before .over2 .ensures, c .before .before .before .before .before .before .before .over .ensures) (entry-made (s .args .r) (s .args .g) (s .args .q) (s .args .i) (s .args .j) (s .args .k) (s .pre))
+    let o = c .before in
+    let s = o .before .before .before .before .before .before in
+    c .entry-at .ensures
+    ∙ rw (o .over3 .ensures, o .before .before .over2 .ensures, o .before .before .before .before .over .ensures) (entry-made (s .args .r) (s .args .g) (s .args .q) (s .args .i) (s .args .j) (s .args .k) (s .pre))
 
 pub entry-on-spec : {M : Type 1} → statement M
 entry-on-spec =
@@ -55,9 +48,5 @@ entry-on-spec =
     over-requires-2
     add-over-3
     over-requires-3
-    mul-result
-    add-result
-    mul-result-2
-    add-result-2
-    add-result-3
+    entry-at-requires
     returns)

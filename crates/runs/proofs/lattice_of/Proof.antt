@@ -1,14 +1,14 @@
 -- `runs::lattice_of` meets its contract. Assumes nothing.
 use native.Mathlib.Omega.{arith}
-use Rattle.runs.proofs.Lattices.{allowed-sized, allowed-sides, allowed-level, table-small, table-made, lattice-made}
+use Rattle.runs.proofs.Lattices.{level-asks, table-small, table-made, lattice-made}
 use borrow.Author.Needs.{needs}
 use Rattle.runs.proofs.lattice_of.Statement.{statement}
 use Rattle.runs.proofs.lattice_of.Tie as tie
 
-level-of-requires : tie.Need-level-of-requires
-level-of-requires c κs =
+level-in-requires : tie.Need-level-in-requires
+level-in-requires c κs =
     let s = c .before .before .before .before in
-    (allowed-sized (s .args .r) (s .args .g) (s .pre), allowed-sides (s .args .r) (s .args .g) (s .pre), allowed-level (s .args .r) (s .args .g) (s .pre))
+    level-asks (s .args .r) (s .args .g) (s .pre)
 
 wide-requires : tie.Need-wide-requires
 wide-requires c κs = search needs
@@ -84,7 +84,7 @@ returns c =
     let t = c .before .before .before .before .before .before .before .before .before .before in
     let s = t .before .before .before .before .before .before .before .before in
     lattice-made (s .args .r) (s .args .g) (s .pre) _ _ _ _ _ _ _ _ _ _ _ _
-    (t .before .before .before .level-of .ensures)
+    (t .before .before .before .level-in .ensures)
     (table-made (s .args .r) (s .args .g) (s .pre) _ _ _ (t .table-start .ensures) (t .before .before .wide .ensures .0) (t .before .wide2 .ensures .0))
     (c .before .before .before .before .before .before .before .before .before .index .ensures .0) (c .before .before .before .before .before .before .before .before .index2 .ensures .0) (c .before .before .before .before .before .before .before .index3 .ensures .0)
     (c .before .before .before .before .before .before .width-of .ensures)
@@ -95,7 +95,7 @@ pub lattice-of-spec : {M : Type 1} → statement M
 lattice-of-spec =
     tie.close
     (tie.spec
-    level-of-requires
+    level-in-requires
     wide-requires
     wide-requires-2
     table-start-requires

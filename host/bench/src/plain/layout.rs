@@ -29,20 +29,25 @@ pub enum Entry {
     Stored(u64),
 }
 
-/// The levels from 0 to the first that has one brick.
-pub fn levels(description: &Description) -> impl Iterator<Item = Level> {
+/// The bricks in each direction of the levels from 0 to the first that has one brick.
+fn levels(description: &Description) -> impl Iterator<Item = [u64; 3]> {
     let Description { size, side, .. } = *description;
-    let bricks = std::array::from_fn(|d| u64::from(size[d].div_ceil(side[d])));
-    let first = Level { base: 0, bricks };
-    std::iter::successors(Some(first), |level| {
-        let next = Level { base: level.base + level.bricks.iter().product::<u64>(), bricks: level.bricks.map(|n| n.div_ceil(2)) };
-        (level.bricks != [1; 3]).then_some(next)
-    })
+    let first = std::array::from_fn(|d| u64::from(size[d].div_ceil(side[d])));
+    std::iter::successors(Some(first), |bricks| (*bricks != [1; 3]).then_some(bricks.map(|n| n.div_ceil(2))))
+}
+
+/// A level of a record that passed check 14. The table starts with the highest level and ends with level 0, so before a level come
+/// all entries but those of the levels up to it.
+pub fn level(cube: &Record, number: u32) -> Option<Level> {
+    let mut levels = levels(&cube.description).scan(u64::from(cube.bricks), |base, bricks| {
+        *base -= bricks.iter().product::<u64>();
+        Some(Level { base: *base, bricks })
+    });
+    levels.nth(number as usize)
 }
 
 pub fn counts(description: &Description) -> Counts {
-    levels(description).fold(Counts { levels: 0, bricks: 0, alphas: 0 }, |sum, level| {
-        let [inline, crossline, vertical] = level.bricks;
+    levels(description).fold(Counts { levels: 0, bricks: 0, alphas: 0 }, |sum, [inline, crossline, vertical]| {
         let alphas = inline * crossline;
         Counts { levels: sum.levels + 1, bricks: sum.bricks + alphas * vertical, alphas: sum.alphas + alphas }
     })

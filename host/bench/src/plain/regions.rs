@@ -51,7 +51,7 @@ struct Part {
 impl<'a> Plan<'a> {
     /// Checks 14, 15, 16 and 18; `item` is what a sample takes of the room.
     fn new(table: &'a [u8], cube: &Record, region: &Region, order: Order, room: usize, item: usize) -> Result<Self, Refusal> {
-        let Some(level) = layout::levels(&cube.description).nth(region.level as usize) else { return refuse(15) };
+        let Some(level) = layout::level(cube, region.level) else { return refuse(15) };
         let inside = |d: usize| {
             let extent = (u64::from(cube.description.size[d]) + (1 << region.level) - 1) >> region.level;
             region.count[d] >= 1 && u64::from(region.start[d]) + u64::from(region.count[d]) <= extent
