@@ -83,6 +83,10 @@ first-upto p n m e =
       | no h ↦ clash (p m) e (first-before p n m (lt-of-not-le h))
     ]
 
+pub sum-none : (f : ℕ → ℕ) → sumTo f 0 ≡ 0
+unfolding sumTo
+sum-none f = refl
+
 -- a sum with one term more, at the code's i + 1
 pub sum-more : (f : ℕ → ℕ) (n : ℕ) → sumTo f (n + 1) ≡ sumTo f n + f n
 unfolding sumTo

@@ -28,8 +28,8 @@ pub fn ceil_div(n: u64, d: u64) -> u64
     (n + (d - 1)) / d
 }
 
-// n halved l times, rounded up each time: a brick count at level l. a - a / 2 cannot wrap, as (a + 1) / 2 can.
-pub fn halved(n: u64, l: u64) -> u64
+// n halved l times, rounded up each time. a - a / 2 cannot wrap, as (a + 1) / 2 can.
+fn halved(n: u64, l: u64) -> u64
     ensures { λ r. ⌜ r ≡ halved n l ⌝ }
 {
     let mut a = n;
@@ -118,10 +118,22 @@ pub fn level_of(a: u64, b: u64, c: u64, total: u64, l: u64) -> Level
     requires { ⌜ Small a b c × (l < levels a b c) × (total ≡ bricks a b c) ⌝ }
     ensures { λ v. ⌜ v ≡ levelOf a b c l ⌝ }
 {
+    let mut x = a;
+    let mut y = b;
+    let mut z = c;
+    let mut left = total;
+    let mut k = 0;
+    while k < l {
+        left -= product(x, y, z);
+        x = x - x / 2;
+        y = y - y / 2;
+        z = z - z / 2;
+        k += 1;
+    }
     Level {
-        base: total - bricks_below(a, b, c, l + 1),
-        inline: halved(a, l),
-        crossline: halved(b, l),
+        base: left - product(x, y, z),
+        inline: x,
+        crossline: y,
     }
 }
 

@@ -1,11 +1,11 @@
 -- `geometry::bricks_below` meets its contract. Assumes nothing.
-use Prim.Native.Nat.{ℕ, _-_, _*_, _≤_}
-use mathlib.Core.Path.{_≡_, refl, ap, _∙_}
+use Prim.Native.Nat.{_-_, _*_, _≤_}
+use mathlib.Core.Path.{_≡_, sym, ap, _∙_}
 use native.Mathlib.Omega.{arith}
 use borrow.Author.Needs.{needs}
 use Rattle.endian.specs.Loops.{sumTo}
 use Rattle.geometry.specs.Geometry.{bricksAt}
-use Rattle.endian.proofs.Search.{sum-more}
+use Rattle.endian.proofs.Search.{sum-none, sum-more}
 use Rattle.geometry.proofs.Levels.{Halved, halved-start, halved-more, halved-count}
 use Rattle.geometry.proofs.bricks_below.Statement.{statement}
 use Rattle.geometry.proofs.bricks_below.Tie as tie
@@ -16,12 +16,8 @@ Inv-loop a b c n x₀ y₀ z₀ sum₀ l₀ x y z sum l = (l ≤ n) × Halved a 
 abbrev μ-loop : tie.MeasureT-loop
 μ-loop a b c n x₀ y₀ z₀ sum₀ l₀ x y z sum l = n - l
 
-zero-sum : (a b c : ℕ) → _≡_ {A = ℕ} 0 (sumTo (bricksAt a b c) 0)
-unfolding sumTo
-zero-sum a b c = refl
-
 loop-holds : tie.Need-loop-holds Inv-loop μ-loop
-loop-holds c = (omega arith, halved-start (c .pre .0), zero-sum (c .args .a) (c .args .b) (c .args .c), omega arith)
+loop-holds c = (omega arith, halved-start (c .pre .0), sym (sum-none (bricksAt (c .args .a) (c .args .b) (c .args .c))), omega arith)
 
 product-requires : tie.Need-product-requires Inv-loop μ-loop
 product-requires c κs = search needs
