@@ -69,7 +69,8 @@ module _ (a b c : ℕ) where
   entry-below {l} {i} {j} {k} h = omega (arith, entry-is l i j k, base-part l (h .level), in-level h)
 
   -- the entries of a higher level come before those of a lower one
-  pub entry-higher : {l i j k l′ i′ j′ k′ : ℕ} → Brick a b c l i j k → Brick a b c l′ i′ j′ k′ → l′ < l → entryOf a b c l i j k < entryOf a b c l′ i′ j′ k′
+  pub entry-higher : {l i j k l′ i′ j′ k′ : ℕ} → Brick a b c l i j k → Brick a b c l′ i′ j′ k′ → l′ < l
+      → entryOf a b c l i j k < entryOf a b c l′ i′ j′ k′
   entry-higher {l} {i} {j} {k} {l′} {i′} {j′} {k′} h h′ g =
       omega (arith, entry-is l i j k, entry-is l′ i′ j′ k′, in-level h, base-order l l′ (h .level) g)
 
@@ -110,8 +111,9 @@ entry-ends (suc a) (suc b) (suc c) ha hb hc =
     let i : suc a - 1 ≡ a = omega arith in
     let j : suc b - 1 ≡ b = omega arith in
     let k : suc c - 1 ≡ c = omega arith in
-    rw (i, j, k)
-    (omega (arith, entry-is (suc a) (suc b) (suc c) 0 a b c, base-rest (suc a) (suc b) (suc c) 0 (levels-pos (suc a) (suc b) (suc c)), sum-more (bricksAt (suc a) (suc b) (suc c)) 0, tri-last c b a, turned (suc a) (suc b) (suc c)))
+    let all = base-rest (suc a) (suc b) (suc c) 0 (levels-pos (suc a) (suc b) (suc c)) in
+    let own = sum-more (bricksAt (suc a) (suc b) (suc c)) 0 in
+    rw (i, j, k) (omega (arith, entry-is (suc a) (suc b) (suc c) 0 a b c, all, own, tri-last c b a, turned (suc a) (suc b) (suc c)))
 
 pub entry-numbers : EntryNumbers
 entry-numbers =

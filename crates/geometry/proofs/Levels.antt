@@ -12,7 +12,7 @@ use borrow.Author.Tests.{eqb-true, eq-eqb}
 use Rattle.endian.specs.Loops.{first, sumTo}
 use Rattle.endian.proofs.Search.{clash, first-le, first-upto, first-at, first-before, first-is, sum-ext, sum-part}
 use Rattle.geometry.specs.Geometry.{ceilDiv, halved, extent, bricksAt, levels, bricks, alphas, Small}
-use Rattle.geometry.specs.Laws.{Allowed, LastLevel, LevelsCover}
+use Rattle.geometry.specs.Laws.{AllowedSize, LastLevel, LevelsCover}
 
 -- n / d rounded up is at most m exactly where n is at most m * d
 pub ceil-le : (n d m : ℕ) → 0 < d → n ≤ m * d → ceilDiv n d ≤ m
@@ -117,10 +117,10 @@ module _ (a b c : ℕ) (la : 1 ≤ a) (lb : 1 ≤ b) (lc : 1 ≤ c) (small : Sma
           (λ (g : 1 < bricksAt a b c l). g)
           (eq-or-lt-of-le (one-le-mul (one-le-mul (half-pos a l la) (half-pos b l lb)) (half-pos c l lc)))
 
-allowed-some : {size side : ℕ} → Allowed size side → 1 ≤ ceilDiv size side
+allowed-some : {size side : ℕ} → AllowedSize size side → 1 ≤ ceilDiv size side
 allowed-some {size} {side} h = ceil-pos size side (h .some) (omega arith)
 
-allowed-small : {n0 n1 n2 s0 s1 s2 : ℕ} → Allowed n0 s0 → Allowed n1 s1 → Allowed n2 s2 → Small (ceilDiv n0 s0) (ceilDiv n1 s1) (ceilDiv n2 s2)
+allowed-small : {n0 n1 n2 s0 s1 s2 : ℕ} → AllowedSize n0 s0 → AllowedSize n1 s1 → AllowedSize n2 s2 → Small (ceilDiv n0 s0) (ceilDiv n1 s1) (ceilDiv n2 s2)
 allowed-small {n0} {n1} {n2} {s0} {s1} {s2} h0 h1 h2 =
     record { inline = ceil-small n0 s0 (h0 .most) (h0 .least); crossline = ceil-small n1 s1 (h1 .most) (h1 .least); vertical = ceil-small n2 s2 (h2 .most) (h2 .least) }
 
@@ -130,7 +130,7 @@ levels-cover =
       covers = covers;
       by-size = λ size side l pos. count-direct size side l pos .0;
       by-extent = λ size side l pos. count-direct size side l pos .1;
-      last = λ n0 n1 n2 s0 s1 s2 h0 h1 h2. last-level (ceilDiv n0 s0) (ceilDiv n1 s1) (ceilDiv n2 s2) (allowed-some h0) (allowed-some h1) (allowed-some h2) (allowed-small h0 h1 h2);
+      last = λ n0 n1 n2 s0 s1 s2 h0 h1 h2. last-level _ _ _ (allowed-some h0) (allowed-some h1) (allowed-some h2) (allowed-small h0 h1 h2);
     }
 
 pub levels-le : (a b c : ℕ) → levels a b c ≤ 21

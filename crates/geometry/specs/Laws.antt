@@ -27,7 +27,7 @@ pub record EntryNumbers : Type 0 where
   pub ends : (a b c : ℕ) → 1 ≤ a → 1 ≤ b → 1 ≤ c → entryOf a b c 0 (a - 1) (b - 1) (c - 1) + 1 ≡ bricks a b c
 
 -- a size that check 6 allows, and a side no smaller than the least that check 4 allows
-pub record Allowed (size side : ℕ) : Type 0 where
+pub record AllowedSize (size side : ℕ) : Type 0 where
   pub some : 1 ≤ size
   pub most : size ≤ 1048576
   pub least : 4 ≤ side
@@ -39,7 +39,7 @@ pub record LastLevel (a b c : ℕ) : Type 0 where
   -- the search for it looks at 20 levels, and ends before
   pub found : levels a b c - 1 < 20
 
--- what every level's brick count owes, in a direction of this size and brick side
+-- what the levels' brick counts owe, in a direction of this size and brick side, and in all three
 pub record LevelsCover : Type 0 where
   -- the bricks of a level cover its extent
   pub covers : (size side l : ℕ) → 0 < side → extent size l ≤ halved (ceilDiv size side) l * side
@@ -48,4 +48,4 @@ pub record LevelsCover : Type 0 where
   -- and it is the level's extent / side, rounded up
   pub by-extent : (size side l : ℕ) → 0 < side → halved (ceilDiv size side) l ≡ ceilDiv (extent size l) side
   -- levels go to the first with one brick
-  pub last : (n0 n1 n2 s0 s1 s2 : ℕ) → Allowed n0 s0 → Allowed n1 s1 → Allowed n2 s2 → LastLevel (ceilDiv n0 s0) (ceilDiv n1 s1) (ceilDiv n2 s2)
+  pub last : (n0 n1 n2 s0 s1 s2 : ℕ) → AllowedSize n0 s0 → AllowedSize n1 s1 → AllowedSize n2 s2 → LastLevel (ceilDiv n0 s0) (ceilDiv n1 s1) (ceilDiv n2 s2)

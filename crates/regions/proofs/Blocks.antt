@@ -200,31 +200,35 @@ module _ (r : Record) (f : Fit r) where
   unfolding entriesOf tableOf
   entries-made a n b w ea en eb ew = rw (ea, en, eb, ew, f .alphas-is, f .bricks-is, f .header-is)
 
-module _ (r : Record) (g : Region) (v : Level) (x y z : Along)
-    (ev : v ≡ levelIn (r .description) (g .level))
-    (ex : x ≡ alongOf (sideOf (r .description) 0) (startOf g 0) (runOf g 0))
-    (ey : y ≡ alongOf (sideOf (r .description) 1) (startOf g 1) (runOf g 1))
-    (ez : z ≡ alongOf (sideOf (r .description) 2) (startOf g 2) (runOf g 2)) where
+-- what a block is made of: the numbers of its level, and the bricks that the region touches in each direction
+pub record BlockParts (r : Record) (g : Region) (v : Level) (x y z : Along) : Type 0 where
+  pub level : v ≡ levelIn (r .description) (g .level)
+  pub inline : x ≡ alongOf (sideOf (r .description) 0) (startOf g 0) (runOf g 0)
+  pub crossline : y ≡ alongOf (sideOf (r .description) 1) (startOf g 1) (runOf g 1)
+  pub vertical : z ≡ alongOf (sideOf (r .description) 2) (startOf g 2) (runOf g 2)
+
+module _ {r : Record} {g : Region} {v : Level} {x y z : Along} (e : BlockParts r g v x y z) where
   first-made : entryAt v (x .first) (y .first) (z .first) ≡ blockOf r g .first
   unfolding blockOf entryIn
-  first-made = rw (ev, ex, ey, ez) (sym (entry-is _ _ _ (g .level) (x₀ r g) (y₀ r g) (z₀ r g)))
+  first-made =
+      rw (e .level, e .inline, e .crossline, e .vertical) (sym (entry-is _ _ _ (g .level) (x₀ r g) (y₀ r g) (z₀ r g)))
 
   -- what the first entry asks, and the entries of a layer
   pub first-ok : Passed r g → (x .first < v .inline) × (entryAt v (x .first) (y .first) (z .first) ≤ 18446744073709551615)
   first-ok p = (
-    rw (ev, ex) (omega (arith, block-brick r g 0 0 0 p (block-pos r g .0) (block-pos r g .1) (block-high r g) .inline)),
+    rw (e .level, e .inline) (omega (arith, block-brick r g 0 0 0 p (block-pos r g .0) (block-pos r g .1) (block-high r g) .inline)),
     omega (arith, first-made, block-below r g p 0 (block-high r g), described-few _ _ (fit-of r g p .is-described)),
   )
 
   pub layer-small : Passed r g → v .inline * v .crossline ≤ 18446744073709551615
   layer-small p =
       let m = halved-small (g .level) (small (r .description) (sized-of r g p)) in
-      rw ev (omega (arith, small-two (m .inline) (m .crossline)))
+      rw (e .level) (omega (arith, small-two (m .inline) (m .crossline)))
 
-  pub block-made : (e : ℕ) → e ≡ entryAt v (x .first) (y .first) (z .first)
-      → record { first = e; inline = x .span; crossline = y .span; vertical = z .span; row = v .inline; layer = v .inline * v .crossline } ≡ blockOf r g
+  pub block-made : (n : ℕ) → n ≡ entryAt v (x .first) (y .first) (z .first)
+      → record { first = n; inline = x .span; crossline = y .span; vertical = z .span; row = v .inline; layer = v .inline * v .crossline } ≡ blockOf r g
   unfolding blockOf
-  block-made e q = rw (q, first-made, ev, ex, ey, ez)
+  block-made n q = rw (q, first-made, e .level, e .inline, e .crossline, e .vertical)
 
 -- ---- one entry
 

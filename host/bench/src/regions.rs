@@ -155,6 +155,7 @@ pub fn run(report: &mut Report, call: Call) {
     }
     growing_regions(report, call);
     growing_cubes(report, call);
+    each_level(report, call);
 }
 
 fn run_type(report: &mut Report, call: Call, side: u32, n: u32, kind: Type) {
@@ -235,4 +236,16 @@ fn growing_cubes(report: &mut Report, call: Call) {
         growth.push(measure(report, &mut bench, &name, call, region, None), 1.0);
     }
     report.goal("time of a region grows with the cube no more than plain Rust's", growth.is_sound());
+}
+
+/// One small region at each level: its time stays, but for the levels below, whose bricks the call takes off the table's.
+fn each_level(report: &mut Report, call: Call) {
+    report.title(&format!("{}: 3x3x3 of int8 at each level, bricks of 8, cube of 128x128x128", call.name()), "plain Rust");
+    let mut bench = Bench::new(8, 128, 0, 27);
+    let mut growth = Growth::default();
+    for level in 0..bench.cube.levels {
+        let region = Region { level, start: [0; 3], count: [3; 3] };
+        growth.push(measure(report, &mut bench, &format!("level {level}"), call, region, None), 1.0);
+    }
+    report.goal("time of a region grows with its level no more than plain Rust's", growth.is_sound());
 }

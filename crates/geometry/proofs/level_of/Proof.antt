@@ -12,33 +12,33 @@ use Rattle.geometry.proofs.level_of.Statement.{statement}
 use Rattle.geometry.proofs.level_of.Tie as tie
 
 -- at level k, whose counts are x, y and z, so many entries are left
-record Passed (a b c k x y z left : ℕ) : Type 0 where
+record AtLevel (a b c k x y z left : ℕ) : Type 0 where
   pub counts : Halved a b c k x y z
   pub rest : left + sumTo (bricksAt a b c) k ≡ bricks a b c
 
-passed-start : {a b c total : ℕ} → Halved a b c 0 a b c → total ≡ bricks a b c → Passed a b c 0 a b c total
-passed-start {a} {b} {c} h e = record { counts = h; rest = omega (arith, sum-none (bricksAt a b c)) }
+level-start : {a b c total : ℕ} → Halved a b c 0 a b c → total ≡ bricks a b c → AtLevel a b c 0 a b c total
+level-start {a} {b} {c} h e = record { counts = h; rest = omega (arith, sum-none (bricksAt a b c)) }
 
 -- a level's bricks are among those left
-enough : {a b c k x y z left : ℕ} → Passed a b c k x y z left → k < levels a b c → x * y * z ≤ left
+enough : {a b c k x y z left : ℕ} → AtLevel a b c k x y z left → k < levels a b c → x * y * z ≤ left
 enough {a} {b} {c} {k} h g = omega (arith, h .rest, halved-count (h .counts), sum-part (bricksAt a b c) k (levels a b c) g)
 
-passed-more : {a b c k x y z left x′ y′ z′ : ℕ} → Passed a b c k x y z left → k < levels a b c → Halved a b c (k + 1) x′ y′ z′
-    → Passed a b c (k + 1) x′ y′ z′ (left - x * y * z)
-passed-more {a} {b} {c} {k} h g n =
+level-more : {a b c k x y z left x′ y′ z′ : ℕ} → AtLevel a b c k x y z left → k < levels a b c → Halved a b c (k + 1) x′ y′ z′
+    → AtLevel a b c (k + 1) x′ y′ z′ (left - x * y * z)
+level-more {a} {b} {c} {k} h g n =
     record { counts = n; rest = omega (arith, enough h g, h .rest, halved-count (h .counts), sum-more (bricksAt a b c) k) }
 
-base-left : {a b c k x y z left : ℕ} → Passed a b c k x y z left → k < levels a b c → left - x * y * z ≡ levelBase a b c k
+base-left : {a b c k x y z left : ℕ} → AtLevel a b c k x y z left → k < levels a b c → left - x * y * z ≡ levelBase a b c k
 base-left {a} {b} {c} {k} h g = omega (arith, enough h g, h .rest, halved-count (h .counts), sum-more (bricksAt a b c) k, base-rest a b c k g)
 
 abbrev Inv-loop : tie.InvT-loop
-Inv-loop a b c total l x₀ y₀ z₀ left₀ k₀ x y z left k = (k ≤ l) × Passed a b c k x y z left
+Inv-loop a b c total l x₀ y₀ z₀ left₀ k₀ x y z left k = (k ≤ l) × AtLevel a b c k x y z left
 
 abbrev μ-loop : tie.MeasureT-loop
 μ-loop a b c total l x₀ y₀ z₀ left₀ k₀ x y z left k = l - k
 
 loop-holds : tie.Need-loop-holds Inv-loop μ-loop
-loop-holds c = (omega arith, passed-start (halved-start (c .pre .0)) (c .pre .2))
+loop-holds c = (omega arith, level-start (halved-start (c .pre .0)) (c .pre .2))
 
 product-requires : tie.Need-product-requires Inv-loop μ-loop
 product-requires c κs = search needs
@@ -64,7 +64,7 @@ loop-less c = omega arith
 loop-again : tie.Need-loop-again Inv-loop μ-loop
 loop-again c =
     let p = c .before .before .loop .inv .1 in
-    (omega arith, rw (c .product .ensures .0) (passed-more p (omega arith) (halved-more (p .counts))))
+    (omega arith, rw (c .product .ensures .0) (level-more p (omega arith) (halved-more (p .counts))))
 
 product-requires-2 : tie.Need-product-requires-2 Inv-loop μ-loop
 product-requires-2 c κs = search needs

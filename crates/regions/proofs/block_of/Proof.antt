@@ -2,7 +2,7 @@
 use native.Mathlib.Omega.{arith}
 use Rattle.checks.proofs.Described.{described-sides}
 use Rattle.runs.proofs.Lattices.{level-asks}
-use Rattle.regions.proofs.Blocks.{fit-of, runs-of, first-ok, layer-small, block-made}
+use Rattle.regions.proofs.Blocks.{fit-of, runs-of, BlockParts, first-ok, layer-small, block-made}
 use borrow.Author.Needs.{needs}
 use Rattle.regions.proofs.block_of.Statement.{statement}
 use Rattle.regions.proofs.block_of.Tie as tie
@@ -54,22 +54,26 @@ bricks-along-requires-3 c κs =
     let s = c .before .before .before .before .before .before .before in
     (described-sides _ _ (fit-of (s .args .r) (s .args .g) (s .pre) .is-described) .2, runs-of (s .args .r) (s .args .g) (s .pre) .vertical .some)
 
+abbrev start : tie.After-bricks-along3 → tie.Start
+start c = c .before .before .before .before .before .before .before .before
+
+parts : (c : tie.After-bricks-along3)
+    → BlockParts (start c .args .r) (start c .args .g) (c .before .before .before .level-in .result) (c .before .before .bricks-along .result) (c .before .bricks-along2 .result) (c .bricks-along3 .result)
+parts c = record {
+  level = c .before .before .before .level-in .ensures;
+  inline = c .before .before .bricks-along .ensures;
+  crossline = c .before .bricks-along2 .ensures;
+  vertical = c .bricks-along3 .ensures;
+}
+
 entry-at-requires : tie.Need-entry-at-requires
-entry-at-requires c κs =
-    let s = c .before .before .before .before .before .before .before .before in
-    first-ok (s .args .r) (s .args .g) _ _ _ _ (c .before .before .before .level-in .ensures) (c .before .before .bricks-along .ensures) (c .before .bricks-along2 .ensures) (c .bricks-along3 .ensures) (s .pre)
+entry-at-requires c κs = first-ok (parts c) (start c .pre)
 
 mul-t33 : tie.Need-mul-t33
-mul-t33 c =
-    let b = c .before .before in
-    let s = b .before .before .before .before .before .before .before .before in
-    record { fits = omega (arith, layer-small (s .args .r) (s .args .g) _ _ _ _ (b .before .before .before .level-in .ensures) (b .before .before .bricks-along .ensures) (b .before .bricks-along2 .ensures) (b .bricks-along3 .ensures) (s .pre)) }
+mul-t33 c = record { fits = omega (arith, layer-small (parts (c .before .before)) (start (c .before .before) .pre)) }
 
 returns : tie.Need-returns
-returns c =
-    let b = c .before .before in
-    let s = b .before .before .before .before .before .before .before .before in
-    block-made (s .args .r) (s .args .g) _ _ _ _ (b .before .before .before .level-in .ensures) (b .before .before .bricks-along .ensures) (b .before .bricks-along2 .ensures) (b .bricks-along3 .ensures) _ (c .before .entry-at .ensures)
+returns c = block-made (parts (c .before .before)) _ (c .before .entry-at .ensures)
 
 pub block-of-spec : {M : Type 1} → statement M
 block-of-spec =
