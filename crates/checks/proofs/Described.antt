@@ -6,12 +6,14 @@ use mathlib.Core.Path.{_≡_, refl, sym}
 use Prim.Native.Nat.{ℕ, zero, suc, _≤_, _<_}
 use native.Mathlib.Nat.{mul-pos}
 use native.Mathlib.Omega.{arith}
+use lib.Count.{trailingZeros}
 use lib.Dec.{eqb, leb}
 use lib.ListN.{getD}
 use borrow.Author.Tests.{eqb-true, leb-true, ltb-false}
+use Rattle.geometry.specs.Geometry.{Between, Power}
 use Rattle.record.specs.Answers.{refused, isTaken}
 use Rattle.record.specs.Types.{codingOf, itemWidth, noType, widthOf}
-use Rattle.record.specs.Record.{bricksOf, brickBytesOf, Between, Sized}
+use Rattle.record.specs.Record.{bricksOf, brickBytesOf, Sized}
 use Rattle.record.specs.declared.Coding.{Coding}
 use Rattle.record.specs.declared.Description.{Description}
 use Rattle.record.specs.declared.Verdict.{Verdict}
@@ -76,6 +78,17 @@ side-range =
     (record { low = omega arith; high = omega arith })
     (record { low = omega arith; high = omega arith })
 
+-- a side is the power of two that its zeros say
+pub side-power : (n : ℕ) → sideOk n ≡ true → Power n
+unfolding trailingZeros
+side-power =
+    side-each Power
+    (record { exponent = refl; small = omega arith })
+    (record { exponent = refl; small = omega arith })
+    (record { exponent = refl; small = omega arith })
+    (record { exponent = refl; small = omega arith })
+    (record { exponent = refl; small = omega arith })
+
 pub size-range : (n : ℕ) → sizeOk n ≡ true → Between 1 1048576 n
 unfolding sizeOk
 size-range n e = let p = both (leb 1 n) (leb n 1048576) e in record { low = leb-true 1 n (p .0); high = leb-true n 1048576 (p .1) }
@@ -86,7 +99,17 @@ unfolding breaks4 breaks6
 sized d e4 e6 =
     let s = all3-each sideOk (d .side) (not-false (all3 sideOk (d .side)) e4) in
     let n = all3-each sizeOk (d .size) (not-false (all3 sizeOk (d .size)) e6) in
-    record { side0 = side-range _ (s .0); side1 = side-range _ (s .1); side2 = side-range _ (s .2); size0 = size-range _ (n .0); size1 = size-range _ (n .1); size2 = size-range _ (n .2) }
+    record {
+      side0 = side-range _ (s .0);
+      side1 = side-range _ (s .1);
+      side2 = side-range _ (s .2);
+      size0 = size-range _ (n .0);
+      size1 = size-range _ (n .1);
+      size2 = size-range _ (n .2);
+      power0 = side-power _ (s .0);
+      power1 = side-power _ (s .1);
+      power2 = side-power _ (s .2);
+    }
 
 -- and so where none of checks 4 to 7 applies
 pub fields-sized : (d : Description) → fieldsFit d ≡ true → Sized d

@@ -92,11 +92,6 @@ pub sum-more : (f : ℕ → ℕ) (n : ℕ) → sumTo f (n + 1) ≡ sumTo f n + f
 unfolding sumTo
 sum-more f n = rw add-one
 
-pub sum-ext : (f g : ℕ → ℕ) → ((l : ℕ) → f l ≡ g l) → (n : ℕ) → sumTo f n ≡ sumTo g n
-unfolding sumTo
-sum-ext f g e zero = refl
-sum-ext f g e (suc n) = omega (arith, sum-ext f g e n, e n)
-
 -- the terms before l and the term l are part of the sum
 pub sum-part : (f : ℕ → ℕ) (l n : ℕ) → l < n → sumTo f l + f l ≤ sumTo f n
 unfolding sumTo

@@ -1,18 +1,19 @@
 -- Rounding up, halving, the last level, and what the counts of all levels are bounded by. Assumes nothing.
-use mathlib.Core.Path.{_≡_, refl, sym, ap, _∙_}
+use mathlib.Core.Path.{_≡_, sym, ap, _∙_}
 use mathlib.Core.Logic.{⊎-elim}
 use mathlib.Core.Bool.{Bool, true, false}
-use Prim.Native.Nat.{ℕ, zero, suc, _+_, _-_, _*_, _/_, _^_, _≤_, _<_}
-use native.Mathlib.Nat.{eq-or-lt-of-le, le-refl, le-antisymm, le-trans, div-lt-iff-lt-mul, mul-assoc, mul-comm, mul-pos, pow-suc, add-mul, one-mul, mul-one, mul-le-mul, one-le-mul, le-mul-of-pos-right}
-use native.Mathlib.Numerals.{add-one}
+use mathlib.Core.List.{List}
+use Prim.Native.Nat.{ℕ, zero, suc, _+_, _-_, _*_, _/_, _^_, _≤_, _<_, zero-le}
+use native.Mathlib.Nat.{eq-or-lt-of-le, le-refl, le-antisymm, le-trans, div-lt-iff-lt-mul, mul-assoc, mul-comm, mul-pos, pow-suc, add-mul, one-mul, mul-le-mul, one-le-mul, le-mul-of-pos-right}
 use native.Mathlib.Omega.{arith}
 use lib.Pow.{pow-pos}
 use lib.Dec.{eqb}
+use lib.ListN.{getD}
 use borrow.Author.Tests.{eqb-true, eq-eqb}
 use Rattle.endian.specs.Loops.{first, sumTo}
-use Rattle.endian.proofs.Search.{clash, first-le, first-upto, first-at, first-before, first-is, sum-ext, sum-part}
-use Rattle.geometry.specs.Geometry.{ceilDiv, halved, extent, bricksAt, levels, bricks, alphas, Small}
-use Rattle.geometry.specs.Laws.{AllowedSize, LastLevel, LevelsCover}
+use Rattle.endian.proofs.Search.{clash, first-le, first-upto, first-at, first-before, first-is}
+use Rattle.geometry.specs.Geometry.{ceilDiv, halved, extent, countAt, countIn, bricksAt, bricksIn, levels, bricks, alphas, Small, Sizes}
+use Rattle.geometry.specs.Laws.{AllowedSize, LastLevel, LevelsCover, OneCount, HalvingRule}
 
 -- n / d rounded up is at most m exactly where n is at most m * d
 pub ceil-le : (n d m : ℕ) → 0 < d → n ≤ m * d → ceilDiv n d ≤ m
@@ -63,21 +64,16 @@ at-direct n (suc l) = rw (at-direct n l, pow-suc 2 l) (ceil-ceil n (2 ^ l) 2 (po
 
 -- the bricks of a level, of the size directly, and of the level's extent
 pub count-direct : (size side l : ℕ) → 0 < side
-    → (halved (ceilDiv size side) l ≡ ceilDiv size (side * 2 ^ l)) × (halved (ceilDiv size side) l ≡ ceilDiv (extent size l) side)
+    → (halved (ceilDiv size side) l ≡ countAt size side l) × (halved (ceilDiv size side) l ≡ ceilDiv (extent size l) side)
 count-direct size side l pos = (direct, direct ∙ sym (ceil-ceil size (2 ^ l) side (pow-pos l) pos ∙ ap (λ (z : ℕ). ceilDiv size z) (mul-comm (2 ^ l) side)))
   where
-    direct : halved (ceilDiv size side) l ≡ ceilDiv size (side * 2 ^ l)
+    direct : halved (ceilDiv size side) l ≡ countAt size side l
     direct = at-direct (ceilDiv size side) l ∙ ceil-ceil size side (2 ^ l) pos (pow-pos l)
 
 -- the bricks of a level cover its extent
 pub covers : (size side l : ℕ) → 0 < side → extent size l ≤ halved (ceilDiv size side) l * side
 covers size side l pos =
     rw (count-direct size side l pos .1) (ceil-le⁻¹ (extent size l) side (ceilDiv (extent size l) side) pos (le-refl (ceilDiv (extent size l) side)))
-
--- one level more, at the code's l + 1
-pub half-more : (n l : ℕ) → halved n (l + 1) ≡ (halved n l + 1) / 2
-unfolding halved
-half-more n l = rw (add-one l)
 
 pub half-le : (n l : ℕ) → halved n l ≤ n
 unfolding halved
@@ -89,14 +85,12 @@ unfolding halved
 half-pos n zero h = h
 half-pos n (suc l) h = omega (arith, half-pos n l h)
 
-pub half-one : (l : ℕ) → halved 1 l ≡ 1
-unfolding halved
-half-one zero = refl
-half-one (suc l) = omega (arith, half-one l)
-
 -- at level 18 one brick is left in a direction
 half-eighteen : (n : ℕ) → 1 ≤ n → n ≤ 262144 → halved n 18 ≡ 1
 half-eighteen n lo hi = le-antisymm (rw (at-direct n 18) (ceil-le n (2 ^ 18) 1 (pow-pos 18) (omega arith))) (half-pos n 18 lo)
+
+at-eighteen : {a b c : ℕ} → 1 ≤ a → 1 ≤ b → 1 ≤ c → Small a b c → bricksAt a b c 18 ≡ 1
+at-eighteen {a} {b} {c} la lb lc small = rw (half-eighteen a la (small .inline), half-eighteen b lb (small .crossline), half-eighteen c lc (small .vertical))
 
 -- the last level is the first with one brick: the bound of 20 in `levels` is never met
 module _ (a b c : ℕ) (la : 1 ≤ a) (lb : 1 ≤ b) (lc : 1 ≤ c) (small : Small a b c) where
@@ -105,8 +99,7 @@ module _ (a b c : ℕ) (la : 1 ≤ a) (lb : 1 ≤ b) (lc : 1 ≤ c) (small : Sma
 
   last-level : LastLevel a b c
   last-level =
-      let at18 : bricksAt a b c 18 ≡ 1 = rw (half-eighteen a la (small .inline), half-eighteen b lb (small .crossline), half-eighteen c lc (small .vertical)) in
-      let early : first single 20 ≤ 18 = first-upto single 20 18 (eq-eqb (bricksAt a b c 18) 1 at18) in
+      let early : first single 20 ≤ 18 = first-upto single 20 18 (eq-eqb (bricksAt a b c 18) 1 (at-eighteen la lb lc small)) in
       let top : levels a b c - 1 ≡ first single 20 = omega arith in
       record { one = rw top (eqb-true (bricksAt a b c (first single 20)) 1 (first-at single 20 (omega arith))); more = above-one; found = omega arith }
     where
@@ -133,6 +126,16 @@ levels-cover =
       last = λ n0 n1 n2 s0 s1 s2 h0 h1 h2. last-level _ _ _ (allowed-some h0) (allowed-some h1) (allowed-some h2) (allowed-small h0 h1 h2);
     }
 
+-- the direct count, the halving and the extent's count are one number
+one-count : {size side : ℕ} (l : ℕ) → AllowedSize size side → OneCount size side l
+one-count {size} {side} l h =
+    let by-size = levels-cover .by-size size side l (omega (arith, h .least)) in
+    let by-extent = levels-cover .by-extent size side l (omega (arith, h .least)) in
+    record { halving = sym by-size; extents = sym by-size ∙ by-extent }
+
+pub halving-rule : HalvingRule
+halving-rule n0 n1 n2 s0 s1 s2 l h0 h1 h2 _ = (one-count l h0, one-count l h1, one-count l h2)
+
 pub levels-le : (a b c : ℕ) → levels a b c ≤ 21
 levels-le a b c = omega (arith, first-le (λ m. eqb (bricksAt a b c m) 1) 20)
 
@@ -144,11 +147,6 @@ pub levels-at : (a b c l : ℕ) → l ≤ 20 → ((j : ℕ) → j < l → eqb (b
     → l + 1 ≡ levels a b c
 levels-at a b c l h no-j yes-l = ap (λ (n : ℕ). n + 1) (sym (first-is (λ m. eqb (bricksAt a b c m) 1) 20 l h no-j yes-l))
 
--- the alpha tiles are the bricks of one brick in depth
-pub alpha-flat : (a b c : ℕ) → sumTo (bricksAt a b 1) (levels a b c) ≡ alphas a b c
-alpha-flat a b c =
-    sum-ext (bricksAt a b 1) (λ l. halved a l * halved b l) (λ l. rw (half-one l) (mul-one (halved a l * halved b l))) (levels a b c)
-
 sum-le : (f g : ℕ → ℕ) → ((l : ℕ) → f l ≤ g l) → (n : ℕ) → sumTo f n ≤ sumTo g n
 unfolding sumTo
 sum-le f g h zero = le-refl 0
@@ -157,28 +155,6 @@ sum-le f g h (suc n) = omega (arith, sum-le f g h n, h n)
 pub alphas-le : (a b c : ℕ) → 1 ≤ c → alphas a b c ≤ bricks a b c
 alphas-le a b c h =
     sum-le (λ l. halved a l * halved b l) (bricksAt a b c) (λ l. le-mul-of-pos-right (halved a l * halved b l) (half-pos c l h)) (levels a b c)
-
-pub bricks-pos : (a b c : ℕ) → 1 ≤ a → 1 ≤ b → 1 ≤ c → 1 ≤ bricks a b c
-bricks-pos a b c ha hb hc =
-    omega (arith, sum-part (bricksAt a b c) 0 (levels a b c) (levels-pos a b c), one-le-mul (one-le-mul (half-pos a 0 ha) (half-pos b 0 hb)) (half-pos c 0 hc))
-
--- the counts x, y and z of level l, as the loops halve them
-pub record Halved (a b c l x y z : ℕ) : Type 0 where
-  pub inline : x ≡ halved a l
-  pub crossline : y ≡ halved b l
-  pub vertical : z ≡ halved c l
-  pub small : Small x y z
-
-pub halved-start : {a b c : ℕ} → Small a b c → Halved a b c 0 a b c
-unfolding halved
-halved-start s = record { inline = refl; crossline = refl; vertical = refl; small = s }
-
-pub halved-more : {a b c l x y z : ℕ} → Halved a b c l x y z → Halved a b c (l + 1) (x - x / 2) (y - y / 2) (z - z / 2)
-halved-more {a} {b} {c} {l} {x} {y} {z} h =
-    record { inline = omega (arith, half-more a l, h .inline); crossline = omega (arith, half-more b l, h .crossline); vertical = omega (arith, half-more c l, h .vertical); small = record { inline = omega (arith, h .small); crossline = omega (arith, h .small); vertical = omega (arith, h .small) } }
-
-pub halved-count : {a b c l x y z : ℕ} → Halved a b c l x y z → x * y * z ≡ bricksAt a b c l
-halved-count h = rw (h .inline, h .crossline, h .vertical)
 
 -- the counts of a level are no larger than those of level 0
 pub halved-small : {a b c : ℕ} (l : ℕ) → Small a b c → Small (halved a l) (halved b l) (halved c l)
@@ -191,3 +167,36 @@ small-two hx hy = mul-le-mul hx hy
 
 pub small-three : {x y z : ℕ} → Small x y z → x * y * z ≤ 18014398509481984
 small-three h = mul-le-mul (small-two (h .inline) (h .crossline)) (h .vertical)
+
+-- a level's bricks and alpha tiles, and those of the first n levels
+pub tiles-few : {a b c : ℕ} (l : ℕ) → Small a b c → halved a l * halved b l ≤ 68719476736
+tiles-few l s = let m = halved-small l s in small-two (m .inline) (m .crossline)
+
+pub bricks-few : {a b c : ℕ} (l : ℕ) → Small a b c → bricksAt a b c l ≤ 18014398509481984
+bricks-few l s = small-three (halved-small l s)
+
+pub sum-most : (f : ℕ → ℕ) (m : ℕ) → ((l : ℕ) → f l ≤ m) → (n : ℕ) → sumTo f n ≤ n * m
+unfolding sumTo
+sum-most f m h zero = zero-le
+sum-most f m h (suc n) = omega (arith, sum-most f m h n, h n)
+
+-- ---- what sizes and sides say of the counts
+
+module _ {size side : List ℕ} (s : Sizes size side) where
+  pub sizes-allowed : AllowedSize (getD size 0 0) (getD side 0 0) × AllowedSize (getD size 1 0) (getD side 1 0) × AllowedSize (getD size 2 0) (getD side 2 0)
+  sizes-allowed = (
+    record { some = s .size0 .low; most = s .size0 .high; least = s .side0 .low },
+    record { some = s .size1 .low; most = s .size1 .high; least = s .side1 .low },
+    record { some = s .size2 .low; most = s .size2 .high; least = s .side2 .low },
+  )
+
+  pub sizes-small : Small (countIn size side 0) (countIn size side 1) (countIn size side 2)
+  sizes-small = let h = sizes-allowed in allowed-small (h .0) (h .1) (h .2)
+
+  -- the code's counts are the halving's
+  pub halvings : (l : ℕ) → (countAt (getD size 0 0) (getD side 0 0) l ≡ halved (countIn size side 0) l) × (countAt (getD size 1 0) (getD side 1 0) l ≡ halved (countIn size side 1) l) × (countAt (getD size 2 0) (getD side 2 0) l ≡ halved (countIn size side 2) l)
+  halvings l = (one-count l (sizes-allowed .0) .halving, one-count l (sizes-allowed .1) .halving, one-count l (sizes-allowed .2) .halving)
+
+  -- level 18 has one brick
+  pub sizes-single : bricksIn size side 18 ≡ 1
+  sizes-single = let h = sizes-allowed in at-eighteen (allowed-some (h .0)) (allowed-some (h .1)) (allowed-some (h .2)) sizes-small

@@ -1,7 +1,11 @@
 -- Levels, brick counts, extents, entry numbers, item numbers and the header's end, as the build paper says them.
 -- A cube has a, b and c bricks in the inline, crossline and vertical direction at level 0.
+use mathlib.Core.List.{List}
+use mathlib.Core.Path.{_≡_}
 use Prim.Native.Nat.{ℕ, zero, suc, _+_, _-_, _*_, _/_, _^_, _≤_, _<_}
+use lib.Count.{trailingZeros}
 use lib.Dec.{eqb}
+use lib.ListN.{getD}
 use Rattle.endian.specs.Loops.{first, sumTo, tri}
 use Rattle.geometry.specs.declared.Shape.{Shape}
 use Rattle.geometry.specs.declared.Level.{Level}
@@ -19,9 +23,20 @@ halved n (suc l) = (halved n l + 1) / 2
 abbrev pub extent : ℕ → ℕ → ℕ
 extent size l = ceilDiv size (2 ^ l)
 
+-- the bricks of level l in a direction, worked out directly: size / (side x 2^l), rounded up
+abbrev pub countAt : ℕ → ℕ → ℕ → ℕ
+countAt size side l = ceilDiv size (side * 2 ^ l)
+
 -- the bricks of level l
 abbrev pub bricksAt : ℕ → ℕ → ℕ → ℕ → ℕ
 bricksAt a b c l = halved a l * halved b l * halved c l
+
+-- of three sizes and three sides: the bricks of level 0 in direction i, and all bricks of level l
+abbrev pub countIn : List ℕ → List ℕ → ℕ → ℕ
+countIn size side i = ceilDiv (getD size i 0) (getD side i 0)
+
+abbrev pub bricksIn : List ℕ → List ℕ → ℕ → ℕ
+bricksIn size side = bricksAt (countIn size side 0) (countIn size side 1) (countIn size side 2)
 
 -- levels, to the first with one brick. 20 is past the last level of any allowed size (law `last` of `LevelsCover`)
 abbrev pub levels : ℕ → ℕ → ℕ → ℕ
@@ -76,6 +91,28 @@ pub record Small (a b c : ℕ) : Type 0 where
   pub inline : a ≤ 262144
   pub crossline : b ≤ 262144
   pub vertical : c ≤ 262144
+
+-- n lies from a to b
+pub record Between (a b n : ℕ) : Type 0 where
+  pub low : a ≤ n
+  pub high : n ≤ b
+
+-- n is the power of two that its trailing zeros say, at most 256
+pub record Power (n : ℕ) : Type 0 where
+  pub exponent : 2 ^ trailingZeros 64 n ≡ n
+  pub small : trailingZeros 64 n ≤ 8
+
+-- what keeps every count, sum and product of three sizes and three sides from wrapping, and makes a quotient by a side a shift
+pub record Sizes (size side : List ℕ) : Type 0 where
+  pub side0 : Between 4 256 (getD side 0 0)
+  pub side1 : Between 4 256 (getD side 1 0)
+  pub side2 : Between 4 256 (getD side 2 0)
+  pub size0 : Between 1 1048576 (getD size 0 0)
+  pub size1 : Between 1 1048576 (getD size 1 0)
+  pub size2 : Between 1 1048576 (getD size 2 0)
+  pub power0 : Power (getD side 0 0)
+  pub power1 : Power (getD side 1 0)
+  pub power2 : Power (getD side 2 0)
 
 -- brick (i, j, k) of level l is one of the cube's
 pub record Brick (a b c l i j k : ℕ) : Type 0 where

@@ -2,7 +2,7 @@
 use mathlib.Core.Path.{_≡_}
 use mathlib.Core.Logic.{_⊎_}
 use Prim.Native.Nat.{ℕ, _+_, _-_, _*_, _^_, _≤_, _<_}
-use Rattle.geometry.specs.Geometry.{ceilDiv, halved, extent, bricksAt, levels, bricks, entryOf, Brick}
+use Rattle.geometry.specs.Geometry.{ceilDiv, halved, extent, countAt, bricksAt, levels, bricks, entryOf, Brick}
 
 -- brick (i, j, k) comes before brick (i′, j′, k′) of the same level: vertical decides first, then crossline, then inline
 abbrev pub Before : ℕ → ℕ → ℕ → ℕ → ℕ → ℕ → Type 0
@@ -44,8 +44,21 @@ pub record LevelsCover : Type 0 where
   -- the bricks of a level cover its extent
   pub covers : (size side l : ℕ) → 0 < side → extent size l ≤ halved (ceilDiv size side) l * side
   -- halving level by level is one division of the size
-  pub by-size : (size side l : ℕ) → 0 < side → halved (ceilDiv size side) l ≡ ceilDiv size (side * 2 ^ l)
+  pub by-size : (size side l : ℕ) → 0 < side → halved (ceilDiv size side) l ≡ countAt size side l
   -- and it is the level's extent / side, rounded up
   pub by-extent : (size side l : ℕ) → 0 < side → halved (ceilDiv size side) l ≡ ceilDiv (extent size l) side
   -- levels go to the first with one brick
   pub last : (n0 n1 n2 s0 s1 s2 : ℕ) → AllowedSize n0 s0 → AllowedSize n1 s1 → AllowedSize n2 s2 → LastLevel (ceilDiv n0 s0) (ceilDiv n1 s1) (ceilDiv n2 s2)
+
+-- the bricks of level l in a direction, three ways
+pub record OneCount (size side l : ℕ) : Type 0 where
+  -- size / (side x 2^l), rounded up, is the build paper's halving from level to level
+  pub halving : countAt size side l ≡ halved (ceilDiv size side) l
+  -- and the level's extent / side, rounded up
+  pub extents : countAt size side l ≡ ceilDiv (extent size l) side
+
+-- for every allowed size and side, at every level that a cube with them has, they are one number in each direction
+abbrev pub HalvingRule : Type 0
+HalvingRule = (n0 n1 n2 s0 s1 s2 l : ℕ) → AllowedSize n0 s0 → AllowedSize n1 s1 → AllowedSize n2 s2
+    → l < levels (ceilDiv n0 s0) (ceilDiv n1 s1) (ceilDiv n2 s2)
+    → OneCount n0 s0 l × OneCount n1 s1 l × OneCount n2 s2 l

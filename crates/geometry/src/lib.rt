@@ -1,10 +1,10 @@
 // Levels, brick counts, extents, entry numbers and the header's end, on numbers alone.
 // These are inner leaves: callers have checked sides and sizes before, so that nothing here can wrap.
 ghost use mathlib.Core.Path.{_≡_};
-ghost use Prim.Native.Nat.{_+_, _*_, _≤_, _<_};
+ghost use Prim.Native.Nat.{_+_, _*_, _^_, _≤_, _<_};
 ghost use Rattle.endian.specs.Loops.{sumTo};
-ghost use Rattle.geometry.specs.Geometry.{ceilDiv, halved, extent, bricksAt, levels, bricks, levelOf, entryAt, brickBytes, tableStart, headerEnd, shapeOf, Small};
-ghost use Rattle.geometry.specs.Laws.{EntryNumbers, LevelsCover};
+ghost use Rattle.geometry.specs.Geometry.{ceilDiv, halved, extent, countAt, countIn, bricksIn, levels, bricks, levelOf, entryAt, brickBytes, tableStart, headerEnd, shapeOf, Power, Sizes};
+ghost use Rattle.geometry.specs.Laws.{EntryNumbers, LevelsCover, HalvingRule};
 
 // Levels, and the bricks and alpha tiles of all levels.
 pub struct Shape {
@@ -28,112 +28,95 @@ pub fn ceil_div(n: u64, d: u64) -> u64
     (n + (d - 1)) / d
 }
 
-// n halved l times, rounded up each time. a - a / 2 cannot wrap, as (a + 1) / 2 can.
-fn halved(n: u64, l: u64) -> u64
-    ensures { λ r. ⌜ r ≡ halved n l ⌝ }
+// n / 2^k, rounded up, by one sum and one shift.
+fn ceil_shift(n: u64, k: u64) -> u64
+    requires { ⌜ (n < 4294967296) × (k ≤ 32) ⌝ }
+    ensures { λ r. ⌜ r ≡ ceilDiv n (2 ^ k) ⌝ }
 {
-    let mut a = n;
-    let mut k = 0;
-    while k < l {
-        a = a - a / 2;
-        k += 1;
-    }
-    a
+    (n + ((1 << k) - 1)) >> k
 }
 
-// A level's extent in samples, in a direction of this size.
-pub fn extent_at(size: u64, l: u64) -> u64
+// A level's extent in samples, in a direction of this size: size / 2^l, rounded up.
+pub fn extent_at(size: u32, l: u64) -> u64
+    requires { ⌜ l ≤ 20 ⌝ }
     ensures { λ r. ⌜ r ≡ extent size l ⌝ }
 {
-    halved(size, l)
+    ceil_shift(size as u64, l)
 }
 
-// The bricks of a level that has x, y and z of them in the three directions.
-fn product(x: u64, y: u64, z: u64) -> u64
-    requires { ⌜ Small x y z ⌝ }
-    ensures { λ r. ⌜ (r ≡ x * y * z) × (r ≤ 18014398509481984) ⌝ }
+// A level's bricks in a direction of this size and brick side: size / (side x 2^l), rounded up. A side is a power of two, so this is
+// the extent's sum and shift, with the side's zeros added to the shift. That it is also the extent / side, rounded up, and the halving
+// from level to level, says `halving_rule`.
+fn bricks_along(size: u32, side: u32, l: u64) -> u64
+    requires { ⌜ Power side × (l ≤ 20) ⌝ }
+    ensures { λ r. ⌜ r ≡ countAt size side l ⌝ }
 {
-    x * y * z
+    ceil_shift(size as u64, u64::trailing_zeros(side as u64) as u64 + l)
 }
 
-// The levels of a cube with a, b and c bricks in the three directions at level 0. The search stops at 20,
-// past the last level of any allowed size, so that it ends for other counts too.
-pub fn level_count(a: u64, b: u64, c: u64) -> u64
-    requires { ⌜ Small a b c ⌝ }
-    ensures { λ r. ⌜ r ≡ levels a b c ⌝ }
+// The alpha tiles of a level: one for each column of bricks.
+fn alphas_at(size: [u32; 3], side: [u32; 3], l: u64) -> u64
+    requires { ⌜ Sizes size side × (l ≤ 20) ⌝ }
+    ensures { λ r. ⌜ r ≡ halved (countIn size side 0) l * halved (countIn size side 1) l ⌝ }
 {
-    let mut x = a;
-    let mut y = b;
-    let mut z = c;
-    let mut l = 0;
-    while l < 20 {
-        if product(x, y, z) == 1 {
-            return l + 1;
+    bricks_along(size[0], side[0], l) * bricks_along(size[1], side[1], l)
+}
+
+// The bricks of a level.
+fn bricks_at(size: [u32; 3], side: [u32; 3], l: u64) -> u64
+    requires { ⌜ Sizes size side × (l ≤ 20) ⌝ }
+    ensures { λ r. ⌜ r ≡ bricksIn size side l ⌝ }
+{
+    alphas_at(size, side, l) * bricks_along(size[2], side[2], l)
+}
+
+// The shape of a cube with these sizes and brick sides. Its levels go to the first with one brick.
+pub fn shape_of(size: [u32; 3], side: [u32; 3]) -> Shape
+    requires { ⌜ Sizes size side ⌝ }
+    ensures { λ r. ⌜ r ≡ shapeOf (countIn size side 0) (countIn size side 1) (countIn size side 2) ⌝ }
+{
+    let mut levels = 0;
+    let mut bricks = 0;
+    let mut alphas = 0;
+    loop {
+        let here = bricks_at(size, side, levels);
+        bricks += here;
+        alphas += alphas_at(size, side, levels);
+        levels += 1;
+        if here == 1 {
+            return Shape {
+                levels,
+                bricks,
+                alphas,
+            };
         }
-        x = x - x / 2;
-        y = y - y / 2;
-        z = z - z / 2;
-        l += 1;
     }
-    l + 1
 }
 
 // The bricks of the levels below n.
-pub fn bricks_below(a: u64, b: u64, c: u64, n: u64) -> u64
-    requires { ⌜ Small a b c × (n ≤ 21) ⌝ }
-    ensures { λ r. ⌜ (r ≡ sumTo (bricksAt a b c) n) × (r ≤ n * 18014398509481984) ⌝ }
+fn bricks_below(size: [u32; 3], side: [u32; 3], n: u64) -> u64
+    requires { ⌜ Sizes size side × (n ≤ 21) ⌝ }
+    ensures { λ r. ⌜ r ≡ sumTo (bricksIn size side) n ⌝ }
 {
-    let mut x = a;
-    let mut y = b;
-    let mut z = c;
     let mut sum = 0;
     let mut l = 0;
     while l < n {
-        sum += product(x, y, z);
-        x = x - x / 2;
-        y = y - y / 2;
-        z = z - z / 2;
+        sum += bricks_at(size, side, l);
         l += 1;
     }
     sum
 }
 
-// The shape of a cube with a, b and c bricks in the three directions at level 0.
-// An alpha tile stands for a column of bricks: the alpha tiles are the bricks of one brick in depth, over the cube's own levels.
-pub fn shape_of(a: u64, b: u64, c: u64) -> Shape
-    requires { ⌜ Small a b c ⌝ }
-    ensures { λ r. ⌜ r ≡ shapeOf a b c ⌝ }
-{
-    let n = level_count(a, b, c);
-    Shape {
-        levels: n,
-        bricks: bricks_below(a, b, c, n),
-        alphas: bricks_below(a, b, 1, n),
-    }
-}
-
 // Level l of a cube that has `total` bricks in all. The highest level's entries come first, so those before level l are
 // all but the entries of the levels up to l.
-pub fn level_of(a: u64, b: u64, c: u64, total: u64, l: u64) -> Level
-    requires { ⌜ Small a b c × (l < levels a b c) × (total ≡ bricks a b c) ⌝ }
-    ensures { λ v. ⌜ v ≡ levelOf a b c l ⌝ }
+pub fn level_of(size: [u32; 3], side: [u32; 3], total: u64, l: u64) -> Level
+    requires { ⌜ Sizes size side × (l < levels (countIn size side 0) (countIn size side 1) (countIn size side 2)) × (total ≡ bricks (countIn size side 0) (countIn size side 1) (countIn size side 2)) ⌝ }
+    ensures { λ v. ⌜ v ≡ levelOf (countIn size side 0) (countIn size side 1) (countIn size side 2) l ⌝ }
 {
-    let mut x = a;
-    let mut y = b;
-    let mut z = c;
-    let mut left = total;
-    let mut k = 0;
-    while k < l {
-        left -= product(x, y, z);
-        x = x - x / 2;
-        y = y - y / 2;
-        z = z - z / 2;
-        k += 1;
-    }
     Level {
-        base: left - product(x, y, z),
-        inline: x,
-        crossline: y,
+        base: total - bricks_below(size, side, l + 1),
+        inline: bricks_along(size[0], side[0], l),
+        crossline: bricks_along(size[1], side[1], l),
     }
 }
 
@@ -150,7 +133,7 @@ pub fn brick_bytes(s0: u64, s1: u64, s2: u64, w: u64) -> u64
     requires { ⌜ (s0 ≤ 256) × (s1 ≤ 256) × (s2 ≤ 256) × (w ≤ 4) ⌝ }
     ensures { λ r. ⌜ (r ≡ brickBytes s0 s1 s2 w) × (r ≤ 67108864) ⌝ }
 {
-    product(s0, s1, s2) * w
+    s0 * s1 * s2 * w
 }
 
 // Where the brick table starts: after 346 bytes, the text, the histogram and the alpha table.
@@ -177,4 +160,11 @@ pub fn entry_numbers()
 // That a level's bricks cover its extent, that the halving is one division, and that it goes on to the first level with one brick: a theorem too.
 pub fn levels_cover()
     ensures { λ r. ⌜ LevelsCover ⌝ }
+{}
+
+// That a level's bricks in a direction are one number three ways, for every allowed size and side and every level that a cube with them
+// has: worked out directly, as the code does it; halved from level to level, as the build paper says it; and as the level's
+// extent / side, rounded up. A theorem too.
+pub fn halving_rule()
+    ensures { λ r. ⌜ HalvingRule ⌝ }
 {}

@@ -5,7 +5,7 @@ use mathlib.Core.Path.{_≡_, refl}
 use native.Mathlib.Omega.{arith}
 use lib.Dec.{eqb}
 use Rattle.geometry.specs.Geometry.{Small, shapeOf}
-use Rattle.geometry.proofs.Levels.{ceil-small, ceil-pos, levels-le, alphas-le}
+use Rattle.geometry.proofs.Levels.{ceil-pos, levels-le, alphas-le, sizes-small}
 use Rattle.record.specs.Types.{codingOf, itemWidth, widthOf}
 use Rattle.record.specs.Record.{countOf, levelsOf, bricksOf, alphasOf, Sized}
 use Rattle.record.specs.declared.Description.{Description}
@@ -24,11 +24,7 @@ width-le k = go (eqb k 0) (eqb k 2) (eqb k 6)
 
 module _ (d : Description) (s : Sized d) where
   pub small : Small (countOf d 0) (countOf d 1) (countOf d 2)
-  small = record {
-    inline = ceil-small _ _ (s .size0 .high) (s .side0 .low);
-    crossline = ceil-small _ _ (s .size1 .high) (s .side1 .low);
-    vertical = ceil-small _ _ (s .size2 .high) (s .side2 .low);
-  }
+  small = sizes-small s
 
   pub levels-few : levelsOf d ≤ 21
   unfolding levelsOf

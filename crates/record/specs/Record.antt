@@ -1,11 +1,11 @@
 -- The record that opening gives: the description with what follows from it.
 use mathlib.Core.Bool.{cond}
 use mathlib.Core.List.{List, [], _∷_}
-use Prim.Native.Nat.{ℕ, _≤_}
+use Prim.Native.Nat.{ℕ}
 use lib.Dec.{eqb}
 use lib.ListN.{getD, length, replicate}
 use lib.Ieee.{Float, binary32, ofBits}
-use Rattle.geometry.specs.Geometry.{ceilDiv, halved, extent, levels, bricks, alphas, brickBytes, tableStart, headerEnd}
+use Rattle.geometry.specs.Geometry.{ceilDiv, halved, extent, levels, bricks, alphas, brickBytes, tableStart, headerEnd, Sizes}
 use Rattle.record.specs.Types.{widthOf}
 use Rattle.record.specs.declared.Description.{Description}
 use Rattle.record.specs.declared.Grid.{Grid}
@@ -112,16 +112,6 @@ noRecord = record {
   length = 0;
 }
 
--- n lies from a to b
-pub record Between (a b n : ℕ) : Type 0 where
-  pub low : a ≤ n
-  pub high : n ≤ b
-
--- what keeps every count, sum and product of a description from wrapping
-pub record Sized (d : Description) : Type 0 where
-  pub side0 : Between 4 256 (sideOf d 0)
-  pub side1 : Between 4 256 (sideOf d 1)
-  pub side2 : Between 4 256 (sideOf d 2)
-  pub size0 : Between 1 1048576 (sizeOf d 0)
-  pub size1 : Between 1 1048576 (sizeOf d 1)
-  pub size2 : Between 1 1048576 (sizeOf d 2)
+-- sizes and sides that keep every count, sum and product of a description from wrapping
+abbrev pub Sized : Description → Type 0
+Sized d = Sizes (d .size) (d .side)

@@ -5,7 +5,6 @@ use endian::u64_at;
 use floats::float_of;
 use geometry::Shape;
 use geometry::brick_bytes;
-use geometry::ceil_div;
 use geometry::header_end;
 use geometry::shape_of;
 ghost use mathlib.Core.Path.{_≡_};
@@ -241,10 +240,7 @@ pub fn shape_in(d: Description) -> Shape
 {
     let size = d.size;
     let side = d.side;
-    let a = ceil_div(size[0] as u64, side[0] as u64);
-    let b = ceil_div(size[1] as u64, side[1] as u64);
-    let c = ceil_div(size[2] as u64, side[2] as u64);
-    shape_of(a, b, c)
+    shape_of(size, side)
 }
 
 pub fn brick_bytes_in(d: Description) -> u64

@@ -12,6 +12,7 @@ use Rattle.record.specs.declared.Verdict.{Verdict}
 use Rattle.record.specs.declared.Verdict.the-variants.{Taken}
 use Rattle.checks.specs.Fits.{breaks14With}
 use Rattle.checks.proofs.Records.{with-fit, fits-is}
+use Rattle.runs.specs.Runs.{Allowed}
 use Rattle.cube.specs.declared.Region.{Region}
 use Rattle.cube.specs.Regions.{inExtent, touched, badRange, notStored, find, unlessIn, regionVerdict}
 use Rattle.regions.specs.declared.Found.{Found}
@@ -85,6 +86,9 @@ module _ (r : Record) (f : List ℕ) (g : Region) (room need : ℕ) (later : Ver
         pub go-on : need ≤ room → unlessIn 12 (find (badRange r f) (touched r g)) later ≡ regionVerdict r f g room need later
         unfolding regionVerdict
         go-on h = simp (fits, lt-leb _ _ level, inside, le-ltb _ _ h)
+
+pub allowed-of : (r : Record) (n : ℕ) (g : Region) → breaks14With r n ≡ false → g .level < r .levels → Allowed r g
+allowed-of r n g fits level = record { fitting = fits-is r (with-fit r n fits .0); leveled = level }
 
 pub passed-of : (r : Record) (n : ℕ) (g : Region) → breaks14With r n ≡ false → g .level < r .levels → inExtent r g ≡ true → Passed r g × (r .length ≡ n)
 passed-of r n g fits level inside =

@@ -22,6 +22,7 @@ ghost use Prim.Native.Nat.{_+_, _*_, _≤_, _<_};
 ghost use lib.Dec.{leb};
 ghost use lib.ListN.{length};
 ghost use Rattle.geometry.specs.Geometry.{extent};
+ghost use Rattle.runs.specs.Runs.{Allowed};
 ghost use Rattle.checks.specs.Checks.{sideOk};
 ghost use Rattle.checks.specs.Fits.{recordFits};
 ghost use Rattle.table.specs.Entries.{outOfRange};
@@ -70,13 +71,15 @@ fn wide(x: u32) -> u64
 
 // A run has a sample and lies in the level's extent. A start and a count of 32 bits each are added in 64.
 fn run_inside(start: u32, count: u32, size: u32, level: u32) -> bool
+    requires { ⌜ level ≤ 20 ⌝ }
     ensures { λ b. ⌜ b ≡ leb 1 count && leb (start + count) (extent size level) ⌝ }
 {
-    (1 <= count) & (wide(start) + wide(count) <= extent_at(wide(size), wide(level)))
+    (1 <= count) & (wide(start) + wide(count) <= extent_at(size, wide(level)))
 }
 
 // The region lies in its level.
 fn in_extent(r: Record, g: Region) -> bool
+    requires { ⌜ Allowed r g ⌝ }
     ensures { λ b. ⌜ b ≡ inExtent r g ⌝ }
 {
     let d = r.description;

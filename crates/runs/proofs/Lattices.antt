@@ -1,12 +1,11 @@
 -- The numbers of a lattice: they are those of the region's places, and none of their sums and products wraps. Assumes nothing.
-use Prim.Native.Nat.{ℕ, _+_, _-_, _*_, _/_, _%_, _^_, _≤_, _<_}
+use Prim.Native.Nat.{ℕ, _+_, _-_, _*_, _/_, _%_, _≤_, _<_}
 use mathlib.Core.Bool.{true}
-use mathlib.Core.Path.{_≡_, refl, sym, ap, subst, _∙_}
+use mathlib.Core.Path.{_≡_, sym, ap, subst, _∙_}
 use mathlib.Core.List.{List}
 use native.Mathlib.Omega.{arith}
 use native.Mathlib.Nat.{mod-lt, mul-le-mul, le-trans, lt-of-lt-of-le, le-mul-of-pos-right}
 use lib.ListN.{length}
-use lib.Count.{trailingZeros}
 use Rattle.endian.specs.Loops.{tri}
 use Rattle.geometry.specs.Geometry.{entryAt, tableStart}
 use Rattle.geometry.specs.declared.Level.{Level}
@@ -14,9 +13,9 @@ use Rattle.geometry.proofs.Levels.{half-le}
 use Rattle.geometry.proofs.Entries.{entry-is}
 use Rattle.record.specs.Record.{sideOf, countOf, bricksAlong, levelsOf, bricksOf, tableOf, headerOf, Sized}
 use Rattle.record.specs.declared.Record.{Record}
-use Rattle.record.proofs.Laws.{small, alphas-few}
+use Rattle.record.proofs.Laws.{small, levels-few, alphas-few}
 use Rattle.checks.specs.Checks.{sideOk}
-use Rattle.checks.proofs.Described.{side-each, side-range, described-sides, described-sized, described-few, described-text, described-width}
+use Rattle.checks.proofs.Described.{side-range, described-sides, described-sized, described-few, described-text, described-width}
 use Rattle.checks.proofs.Records.{Fit, fits-all}
 use Rattle.table.specs.Entries.{kindAt}
 use Rattle.table.specs.Windows.{Width}
@@ -25,14 +24,7 @@ use Rattle.cube.specs.Places.{itemBytes, kindIn, entryIn, brickOf, itemNo, Insi
 use Rattle.cube.specs.Regions.{startOf, runOf, place}
 use Rattle.cube.proofs.Places.{brick-of, brick-lt, item-lt}
 use Rattle.runs.specs.declared.Lattice.{Lattice}
-use Rattle.runs.specs.Runs.{Sides, levelIn, latticeOf, Allowed, Placed}
-
--- a side is the power of two that its zeros say
-pub side-power : (n : ℕ) → sideOk n ≡ true → (2 ^ trailingZeros 64 n ≡ n) × (trailingZeros 64 n < 64)
-unfolding trailingZeros
-side-power =
-    side-each (λ (n : ℕ). (2 ^ trailingZeros 64 n ≡ n) × (trailingZeros 64 n < 64))
-    (refl, omega arith) (refl, omega arith) (refl, omega arith) (refl, omega arith) (refl, omega arith)
+use Rattle.runs.specs.Runs.{levelIn, latticeOf, Allowed, Placed}
 
 pub side-pos : (n : ℕ) → sideOk n ≡ true → 0 < n
 side-pos n e = omega (arith, side-range n e .low)
@@ -158,13 +150,17 @@ module _ (r : Record) (g : Region) (h : Allowed r g) where
   allowed-sized = described-sized _ _ (allowed-fit .is-described)
 
   -- what `level_in` asks of the record and the region's level
-  pub level-asks : Sized (r .description) × Sides (r .description) × (r .bricks ≡ bricksOf (r .description)) × (g .level < levelsOf (r .description))
-  level-asks = (allowed-sized, described-sides _ _ (allowed-fit .is-described), allowed-fit .bricks-is, rw (← allowed-fit .levels-is) (h .leveled))
+  pub level-asks : Sized (r .description) × (r .bricks ≡ bricksOf (r .description)) × (g .level < levelsOf (r .description))
+  level-asks = (allowed-sized, allowed-fit .bricks-is, rw (← allowed-fit .levels-is) (h .leveled))
+
+  -- no level that a cube has is past the bound of the code's shifts
+  pub level-few : g .level ≤ 20
+  level-few = omega (arith, level-asks .2, levels-few (r .description) allowed-sized)
 
   pub table-small : (r .text ≤ 65536) × (r .alphas ≤ 1048576)
   table-small = (
     described-text _ _ (allowed-fit .is-described) .1,
-    omega (arith, alphas-few _ allowed-sized, described-few _ _ (allowed-fit .is-described), allowed-fit .alphas-is),
+    omega (arith, alphas-few (r .description) allowed-sized, described-few _ _ (allowed-fit .is-described), allowed-fit .alphas-is),
   )
 
   pub table-made : (t x y : ℕ) → t ≡ tableStart x y → x ≡ r .text → y ≡ r .alphas → t ≡ latticeOf r g .table

@@ -9,17 +9,12 @@ use Rattle.geometry.specs.declared.Level.{Level}
 use Rattle.record.specs.Record.{sideOf, countOf, tableOf, headerOf, brickBytesOf}
 use Rattle.record.specs.declared.Description.{Description}
 use Rattle.record.specs.declared.Record.{Record}
-use Rattle.checks.specs.Checks.{sideOk}
 use Rattle.checks.specs.Fits.{recordFits}
 use Rattle.table.specs.declared.Kind.the-variants.{Stored}
 use Rattle.cube.specs.declared.Region.{Region}
 use Rattle.cube.specs.Places.{itemBytes, kindIn, brickOf, Inside}
 use Rattle.cube.specs.Regions.{startOf, runOf, place}
 use Rattle.runs.specs.declared.Lattice.{Lattice}
-
--- the sides are the format's
-abbrev pub Sides : Description → Type 0
-Sides d = (sideOk (sideOf d 0) ≡ true) × (sideOk (sideOf d 1) ≡ true) × (sideOk (sideOf d 2) ≡ true)
 
 -- what numbers the bricks of level l
 abbrev pub levelIn : Description → ℕ → Level

@@ -14,12 +14,11 @@ ghost use mathlib.Core.Path.{_≡_};
 ghost use mathlib.Core.Bool.{true};
 ghost use Prim.Native.Nat.{_+_, _-_, _/_, _%_, _<_, _≤_, min};
 ghost use lib.ListN.{length};
-ghost use Rattle.geometry.specs.Geometry.{ceilDiv};
 ghost use Rattle.checks.specs.Checks.{sideOk};
 ghost use Rattle.record.specs.Record.{sideOf, levelsOf, bricksOf, Sized};
 ghost use Rattle.cube.specs.Places.{kindIn, brickOf, itemNo};
 ghost use Rattle.cube.specs.Regions.{startOf, place};
-ghost use Rattle.runs.specs.Runs.{Sides, levelIn, latticeOf, Allowed, Placed};
+ghost use Rattle.runs.specs.Runs.{levelIn, latticeOf, Allowed, Placed};
 
 // A region among the bricks of its level, worked out once for a call.
 pub struct Lattice {
@@ -60,25 +59,14 @@ pub fn over(x: usize, side: usize) -> usize
     x >> usize::trailing_zeros(side)
 }
 
-// The bricks of level 0 in a direction.
-fn bricks_over(size: u32, side: u32) -> u64
-    requires { ⌜ sideOk side ≡ true ⌝ }
-    ensures { λ n. ⌜ n ≡ ceilDiv size side ⌝ }
-{
-    over(index(size) + (index(side) - 1), index(side)) as u64
-}
-
 // A level of a cube with this description and so many bricks in all levels.
 pub fn level_in(d: Description, bricks: u32, level: u32) -> Level
-    requires { ⌜ Sized d × Sides d × (bricks ≡ bricksOf d) × (level < levelsOf d) ⌝ }
+    requires { ⌜ Sized d × (bricks ≡ bricksOf d) × (level < levelsOf d) ⌝ }
     ensures { λ v. ⌜ v ≡ levelIn d level ⌝ }
 {
     let size = d.size;
     let side = d.side;
-    let a = bricks_over(size[0], side[0]);
-    let b = bricks_over(size[1], side[1]);
-    let c = bricks_over(size[2], side[2]);
-    level_of(a, b, c, wide(bricks), wide(level))
+    level_of(size, side, wide(bricks), wide(level))
 }
 
 // The lattice of a region.

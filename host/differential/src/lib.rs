@@ -9,6 +9,7 @@ pub mod cubes;
 pub mod damage;
 pub mod guard;
 pub mod ledger;
+pub mod numbered;
 pub mod random;
 pub mod reader;
 pub mod tally;

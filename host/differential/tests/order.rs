@@ -2,6 +2,7 @@
 //! and vertical slowest. Expected entries are counted by hand from that rule, for the library and the independent reader alike.
 
 use differential::cubes::{self, Limits};
+use differential::numbered::{described, numbered, put_entry};
 use differential::reader;
 use differential::tally::Call;
 use differential::trial::{run, Trial};
@@ -46,10 +47,6 @@ const ALL_WAYS: [Named; 15] = [
 const ALL_WAYS_HEADERS: usize = 2607;
 const ALL_WAYS_FIRST: usize = 2624;
 
-fn described(size: [u32; 3], side: u32, datatype: u8) -> Description {
-    Description { side: [side; 3], size, datatype, range: [0, 1], ..Description::default() }
-}
-
 fn refused(number: u32, entry: u32) -> Refusal {
     Refusal { number, entry }
 }
@@ -59,27 +56,9 @@ fn corner((level, brick): Named, side: u32) -> Region {
     Region { level, start: brick.map(|n| n * side), count: [1; 3] }
 }
 
-/// Puts a number into an entry of the table that ends with the headers.
-fn put_entry(file: &mut [u8], record: &Record, entry: u32, number: u64) {
-    let at = record.header as usize - 8 * (record.bricks - entry) as usize;
-    file[at..at + 8].copy_from_slice(&number.to_le_bytes());
-}
-
-/// A made cube whose entry n is the constant n, and its record.
-fn numbered(trial: &mut Trial, description: &Description) -> (Vec<u8>, Record) {
-    let length = reader::record_of(3, *description, 5, 0).header as usize;
-    let mut file = trial.make(description, &[0; 5], Fill::Constant, length).unwrap();
-    let record = trial.open(&file).unwrap();
-    for entry in 0..record.bricks {
-        put_entry(&mut file, &record, entry, 1 << 63 | u64::from(entry));
-    }
-    assert_eq!(trial.open(&file), Ok(record));
-    (file, record)
-}
-
 /// Reads show which entry each brick is, and a write or a read that is refused names it.
 fn assert_entries(trial: &mut Trial, size: [u32; 3], side: u32, bricks: &[Named]) {
-    let description = described(size, side, 0);
+    let description = described(size, [side; 3], 0);
     let (mut file, record) = numbered(trial, &description);
     assert_eq!(record.bricks as usize, bricks.len());
     let levels = reader::levels(&description);
@@ -97,7 +76,7 @@ fn assert_entries(trial: &mut Trial, size: [u32; 3], side: u32, bricks: &[Named]
 #[test]
 fn worked_number_3() {
     run(1201, 1, |trial, _| {
-        let (file, record) = numbered(trial, &described([112, 64, 176], 64, 0));
+        let (file, record) = numbered(trial, &described([112, 64, 176], [64; 3], 0));
         assert_eq!((record.levels, record.bricks, record.header), (3, 9, 2519));
         assert_eq!(trial.read_raw(&record, &file, corner((0, [1, 0, 2]), 64), 1), Ok(vec![8]));
         assert_eq!(trial.read_raw(&record, &file, corner((1, [0, 0, 1]), 64), 1), Ok(vec![2]));
@@ -115,7 +94,7 @@ fn inline_runs_fastest_and_vertical_slowest() {
 fn made_bricks_are_stored_in_this_order() {
     run(1203, 1, |trial, _| {
         let length = ALL_WAYS_FIRST + 15 * 64;
-        let mut file = trial.make(&described([5, 9, 5], 4, 0), &[0; 5], Fill::Stored, length).unwrap();
+        let mut file = trial.make(&described([5, 9, 5], [4; 3], 0), &[0; 5], Fill::Stored, length).unwrap();
         let record = trial.open(&file).unwrap();
         assert_eq!((record.header as usize, file.len()), (ALL_WAYS_HEADERS, length));
         for (entry, &brick) in ALL_WAYS.iter().enumerate() {
@@ -142,7 +121,7 @@ fn higher_levels_come_first() {
     const LIMITS: Limits = Limits { sides: &[4, 4, 8], longest: 20, bricks: 300, bytes: 0 };
     let trial = run(1204, 600, |trial, _| {
         let Description { side, size, .. } = cubes::description(&mut trial.random, LIMITS);
-        let (file, record) = numbered(trial, &Description { side, ..described(size, 4, 2) });
+        let (file, record) = numbered(trial, &described(size, side, 2));
         assert!(entries_of(trial, &file, &record, record.levels - 1).iter().all(|&entry| entry == 0), "the highest level's brick");
         let mut next = 0;
         for level in (0..record.levels).rev() {
@@ -166,7 +145,7 @@ const ONE_LEVEL_SAMPLE: Region = Region { level: 0, start: [1, 2, 1], count: [1;
 #[test]
 fn the_stored_brick_of_one_level() {
     run(1205, 1, |trial, _| {
-        let mut file = trial.make(&described(ONE_LEVEL, 4, 0), &[0; 5], Fill::Stored, 2496).unwrap();
+        let mut file = trial.make(&described(ONE_LEVEL, [4; 3], 0), &[0; 5], Fill::Stored, 2496).unwrap();
         let record = trial.open(&file).unwrap();
         assert_eq!((record.levels, record.bricks, record.alphas, record.header), (1, 1, 1, 2431));
         assert_eq!(trial.brick_kind(&record, &file, 0), Ok(Brick::Stored(2432)));
@@ -182,7 +161,7 @@ fn the_stored_brick_of_one_level() {
 #[test]
 fn the_constant_brick_of_one_level() {
     run(1206, 1, |trial, _| {
-        let mut file = trial.make(&described(ONE_LEVEL, 4, 0), &[0; 5], Fill::Constant, 2431).unwrap();
+        let mut file = trial.make(&described(ONE_LEVEL, [4; 3], 0), &[0; 5], Fill::Constant, 2431).unwrap();
         file[2423] = 5;
         let record = trial.open(&file).unwrap();
         assert_eq!(trial.brick_kind(&record, &file, 0), Ok(Brick::Constant(5.0)));

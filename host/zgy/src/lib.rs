@@ -156,7 +156,7 @@ impl Record {
         }
     }
 
-    /// The samples of a level in each direction: the sizes halved once a level, rounded up.
+    /// The samples of a level in each direction: size / 2^level, rounded up.
     pub fn extent(&self, level: u32) -> [u32; 3] {
         self.description.size.map(|size| (u64::from(size)).div_ceil(1 << level.min(32)) as u32)
     }

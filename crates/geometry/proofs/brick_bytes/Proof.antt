@@ -1,24 +1,30 @@
 -- `geometry::brick_bytes` meets its contract. Assumes nothing.
-use mathlib.Core.Path.{ap}
-use Prim.Native.Nat.{ℕ, _*_, _≤_}
+use mathlib.Core.Path.{refl}
+use Prim.Native.Nat.{_*_, _≤_}
 use native.Mathlib.Nat.{mul-le-mul}
 use native.Mathlib.Omega.{arith}
-use borrow.Author.Needs.{needs}
 use Rattle.geometry.specs.Geometry.{brickBytes}
 use Rattle.geometry.proofs.brick_bytes.Statement.{statement}
 use Rattle.geometry.proofs.brick_bytes.Tie as tie
 
-product-requires : tie.Need-product-requires
-product-requires c κs = search needs
-
-small : (c : tie.Start) → brickBytes (c .args .s0) (c .args .s1) (c .args .s2) (c .args .w) ≤ 67108864
-small c = mul-le-mul (mul-le-mul (mul-le-mul (c .pre .0) (c .pre .1)) (c .pre .2)) (c .pre .3)
+-- its partial products
+few : (c : tie.Start) → (c .args .s0 * c .args .s1 ≤ 65536) × (c .args .s0 * c .args .s1 * c .args .s2 ≤ 16777216) × (brickBytes (c .args .s0) (c .args .s1) (c .args .s2) (c .args .w) ≤ 67108864)
+few c =
+    let two : c .args .s0 * c .args .s1 ≤ 65536 = mul-le-mul (c .pre .0) (c .pre .1) in
+    let three : c .args .s0 * c .args .s1 * c .args .s2 ≤ 16777216 = mul-le-mul two (c .pre .2) in
+    (two, three, mul-le-mul three (c .pre .3))
 
 mul-result : tie.Need-mul-result
-mul-result c = rw (c .product .ensures .0) (omega (arith, small (c .before)))
+mul-result c = omega (arith, few c .0)
+
+mul-result-2 : tie.Need-mul-result-2
+mul-result-2 c = omega (arith, few c .1)
+
+mul-result-3 : tie.Need-mul-result-3
+mul-result-3 c = omega (arith, few c .2)
 
 returns : tie.Need-returns
-returns c = (ap (λ (n : ℕ). n * c .before .args .w) (c .product .ensures .0), rw (c .product .ensures .0) (small (c .before)))
+returns c = (refl, few c .2)
 
 pub brick-bytes-spec : {M : Type 1} → statement M
-brick-bytes-spec = tie.close (tie.spec product-requires mul-result returns)
+brick-bytes-spec = tie.close (tie.spec mul-result mul-result-2 mul-result-3 returns)

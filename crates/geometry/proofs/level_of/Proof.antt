@@ -1,101 +1,73 @@
--- `geometry::level_of` meets its contract. The loop's invariant: the entries left are all but those of the levels passed. Assumes nothing.
-use Prim.Native.Nat.{ℕ, _+_, _-_, _*_, _≤_, _<_}
-use mathlib.Core.Path.{_≡_}
+-- `geometry::level_of` meets its contract. Assumes nothing.
+use Prim.Native.Nat.{ℕ, _+_, _-_, _≤_}
+use mathlib.Core.Path.{_≡_, sym, _∙_}
 use native.Mathlib.Omega.{arith}
 use borrow.Author.Needs.{needs}
 use Rattle.endian.specs.Loops.{sumTo}
-use Rattle.endian.proofs.Search.{sum-none, sum-more, sum-part}
-use Rattle.geometry.specs.Geometry.{bricksAt, levels, bricks, levelBase}
-use Rattle.geometry.proofs.Levels.{Halved, halved-start, halved-more, halved-count}
+use Rattle.geometry.specs.Geometry.{countIn, bricksIn, levelBase}
+use Rattle.geometry.proofs.Levels.{levels-le, halvings}
 use Rattle.geometry.proofs.Entries.{base-rest}
 use Rattle.geometry.proofs.level_of.Statement.{statement}
 use Rattle.geometry.proofs.level_of.Tie as tie
 
--- at level k, whose counts are x, y and z, so many entries are left
-record AtLevel (a b c k x y z left : ℕ) : Type 0 where
-  pub counts : Halved a b c k x y z
-  pub rest : left + sumTo (bricksAt a b c) k ≡ bricks a b c
+-- the level is one that a cube may have
+few : (c : tie.Start) → c .args .l ≤ 20
+few c = omega (arith, c .pre .1, levels-le (countIn (c .args .t1) (c .args .t2) 0) (countIn (c .args .t1) (c .args .t2) 1) (countIn (c .args .t1) (c .args .t2) 2))
 
-level-start : {a b c total : ℕ} → Halved a b c 0 a b c → total ≡ bricks a b c → AtLevel a b c 0 a b c total
-level-start {a} {b} {c} h e = record { counts = h; rest = omega (arith, sum-none (bricksAt a b c)) }
+-- the entries before the level
+abbrev base : (c : tie.Start) → ℕ
+base c = levelBase (countIn (c .args .t1) (c .args .t2) 0) (countIn (c .args .t1) (c .args .t2) 1) (countIn (c .args .t1) (c .args .t2) 2) (c .args .l)
 
--- a level's bricks are among those left
-enough : {a b c k x y z left : ℕ} → AtLevel a b c k x y z left → k < levels a b c → x * y * z ≤ left
-enough {a} {b} {c} {k} h g = omega (arith, h .rest, halved-count (h .counts), sum-part (bricksAt a b c) k (levels a b c) g)
+-- with those of the levels up to it they are all
+base-all : (c : tie.Start) → base c + sumTo (bricksIn (c .args .t1) (c .args .t2)) (c .args .l + 1) ≡ c .args .total
+base-all c = base-rest _ _ _ (c .args .l) (c .pre .1) ∙ sym (c .pre .2)
 
-level-more : {a b c k x y z left x′ y′ z′ : ℕ} → AtLevel a b c k x y z left → k < levels a b c → Halved a b c (k + 1) x′ y′ z′
-    → AtLevel a b c (k + 1) x′ y′ z′ (left - x * y * z)
-level-more {a} {b} {c} {k} h g n =
-    record { counts = n; rest = omega (arith, enough h g, h .rest, halved-count (h .counts), sum-more (bricksAt a b c) k) }
+add-bricks-below : tie.Need-add-bricks-below
+add-bricks-below c = omega (arith, few c)
 
-base-left : {a b c k x y z left : ℕ} → AtLevel a b c k x y z left → k < levels a b c → left - x * y * z ≡ levelBase a b c k
-base-left {a} {b} {c} {k} h g = omega (arith, enough h g, h .rest, halved-count (h .counts), sum-more (bricksAt a b c) k, base-rest a b c k g)
+bricks-below-requires : tie.Need-bricks-below-requires
+bricks-below-requires c κs = (c .pre .0, omega (arith, few c))
 
-abbrev Inv-loop : tie.InvT-loop
-Inv-loop a b c total l x₀ y₀ z₀ left₀ k₀ x y z left k = (k ≤ l) × AtLevel a b c k x y z left
+sub-t11 : tie.Need-sub-t11
+sub-t11 c = omega (arith, base-all (c .before), c .bricks-below .ensures)
 
-abbrev μ-loop : tie.MeasureT-loop
-μ-loop a b c total l x₀ y₀ z₀ left₀ k₀ x y z left k = l - k
+array-read-bricks-along : tie.Need-array-read-bricks-along
+array-read-bricks-along c = search needs
 
-loop-holds : tie.Need-loop-holds Inv-loop μ-loop
-loop-holds c = (omega arith, level-start (halved-start (c .pre .0)) (c .pre .2))
+array-read-bricks-along-2 : tie.Need-array-read-bricks-along-2
+array-read-bricks-along-2 c = search needs
 
-product-requires : tie.Need-product-requires Inv-loop μ-loop
-product-requires c κs = search needs
+bricks-along-requires : tie.Need-bricks-along-requires
+bricks-along-requires c κs = (c .before .pre .0 .power0, few (c .before))
 
-sub-left : tie.Need-sub-left Inv-loop μ-loop
-sub-left c = omega (arith, enough (c .before .before .loop .inv .1) (omega arith), c .product .ensures .0)
+array-read-bricks-along-3 : tie.Need-array-read-bricks-along-3
+array-read-bricks-along-3 c = search needs
 
-sub-x : tie.Need-sub-x Inv-loop μ-loop
-sub-x c = omega arith
+array-read-bricks-along-4 : tie.Need-array-read-bricks-along-4
+array-read-bricks-along-4 c = search needs
 
-sub-y : tie.Need-sub-y Inv-loop μ-loop
-sub-y c = omega arith
+bricks-along-requires-2 : tie.Need-bricks-along-requires-2
+bricks-along-requires-2 c κs = (c .before .before .pre .0 .power1, few (c .before .before))
 
-sub-z : tie.Need-sub-z Inv-loop μ-loop
-sub-z c = omega arith
-
-add-k : tie.Need-add-k Inv-loop μ-loop
-add-k c = omega arith
-
-loop-less : tie.Need-loop-less Inv-loop μ-loop
-loop-less c = omega arith
-
-loop-again : tie.Need-loop-again Inv-loop μ-loop
-loop-again c =
-    let p = c .before .before .loop .inv .1 in
-    (omega arith, rw (c .product .ensures .0) (level-more p (omega arith) (halved-more (p .counts))))
-
-product-requires-2 : tie.Need-product-requires-2 Inv-loop μ-loop
-product-requires-2 c κs = search needs
-
-sub-t14 : tie.Need-sub-t14 Inv-loop μ-loop
-sub-t14 c = omega (arith, enough (c .before .before .loop .inv .1) (omega arith), c .product2 .ensures .0)
-
-returns : tie.Need-returns Inv-loop μ-loop
+returns : tie.Need-returns
 returns c =
-    let s = c .before .before .before .args in
-    let n = c .before .before .loop in
-    let p = n .inv .1 in
-    let e : n .k ≡ s .l = omega arith in
-    let base : n .left - c .product2 .result ≡ levelBase (s .a) (s .b) (s .c) (n .k) = omega (arith, c .product2 .ensures .0, base-left p (omega arith)) in
-    rw (← e) (rw (base, p .counts .inline, p .counts .crossline))
+    let b = c .before .before in
+    let s = b .before in
+    let e = halvings (s .pre .0) (s .args .l) in
+    let first : s .args .total - b .bricks-below .result ≡ base s = omega (arith, base-all s, b .bricks-below .ensures) in
+    rw (first, c .before .bricks-along .ensures ∙ e .0, c .bricks-along2 .ensures ∙ e .1)
 
 pub level-of-spec : {M : Type 1} → statement M
 level-of-spec =
     tie.close
     (tie.spec
-    Inv-loop
-    μ-loop
-    loop-holds
-    product-requires
-    sub-left
-    sub-x
-    sub-y
-    sub-z
-    add-k
-    loop-less
-    loop-again
-    product-requires-2
-    sub-t14
+    add-bricks-below
+    bricks-below-requires
+    sub-t11
+    array-read-bricks-along
+    array-read-bricks-along-2
+    bricks-along-requires
+    array-read-bricks-along-3
+    array-read-bricks-along-4
+    bricks-along-requires-2
     returns)

@@ -2,7 +2,7 @@
 use mathlib.Core.Path.{sym, _∙_}
 use native.Mathlib.Omega.{arith}
 use borrow.Author.Tests.{not-true, not-false}
-use Rattle.regions.proofs.Verdicts.{stop14, stop15, stop16, stop18, go-on, passed-of}
+use Rattle.regions.proofs.Verdicts.{stop14, stop15, stop16, stop18, go-on, allowed-of, passed-of}
 use borrow.Author.Needs.{needs}
 use Rattle.regions.proofs.check_region.Statement.{statement}
 use Rattle.regions.proofs.check_region.Tie as tie
@@ -26,7 +26,9 @@ returns-2 c =
     c .refuse2 .ensures ∙ stop15 (s .r) (s .file .now) (s .g) _ _ _ (sym (e1 .before .check14-with .ensures) ∙ e1 .if1 .left) (omega (arith, c .before .if2 .taken))
 
 in-extent-requires : tie.Need-in-extent-requires
-in-extent-requires c κs = search needs
+in-extent-requires c κs =
+    let e1 = c .before .before .before in
+    allowed-of _ _ _ (sym (e1 .before .check14-with .ensures) ∙ e1 .if1 .left) (c .if2 .left)
 
 refuse-requires-3 : tie.Need-refuse-requires-3
 refuse-requires-3 c κs = search needs

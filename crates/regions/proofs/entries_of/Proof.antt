@@ -20,7 +20,7 @@ table-start-requires c κs =
     let s = c .before .before .before in
     let f = fits-all (s .args .r) (s .pre) in
     let p = f .is-described in
-    (omega (arith, described-text _ _ p, c .before .wide .ensures), omega (arith, alphas-few _ (described-sized _ _ p), described-few _ _ p, f .alphas-is, c .wide2 .ensures))
+    (omega (arith, described-text _ _ p, c .before .wide .ensures), omega (arith, alphas-few (s .args .r .description) (described-sized _ _ p), described-few _ _ p, f .alphas-is, c .wide2 .ensures))
 
 wide-requires-3 : tie.Need-wide-requires-3
 wide-requires-3 c κs = search needs

@@ -1,6 +1,7 @@
 -- `regions::in_extent` meets its contract. Assumes nothing.
 use Rattle.cube.specs.Regions.{inExtent}
 use borrow.Author.Needs.{needs}
+use Rattle.runs.proofs.Lattices.{level-few}
 use Rattle.regions.proofs.in_extent.Statement.{statement}
 use Rattle.regions.proofs.in_extent.Tie as tie
 
@@ -14,7 +15,7 @@ array-read-run-inside-3 : tie.Need-array-read-run-inside-3
 array-read-run-inside-3 c = search needs
 
 run-inside-requires : tie.Need-run-inside-requires
-run-inside-requires c κs = search needs
+run-inside-requires c κs = let s = c .before .before .before .before in level-few (s .args .r) (s .args .g) (s .pre)
 
 array-read-run-inside-4 : tie.Need-array-read-run-inside-4
 array-read-run-inside-4 c = search needs
@@ -26,7 +27,7 @@ array-read-run-inside-6 : tie.Need-array-read-run-inside-6
 array-read-run-inside-6 c = search needs
 
 run-inside-requires-2 : tie.Need-run-inside-requires-2
-run-inside-requires-2 c κs = search needs
+run-inside-requires-2 c κs = let s = c .before .before .before .before .before in level-few (s .args .r) (s .args .g) (s .pre)
 
 array-read-run-inside-7 : tie.Need-array-read-run-inside-7
 array-read-run-inside-7 c = search needs
@@ -38,7 +39,7 @@ array-read-run-inside-9 : tie.Need-array-read-run-inside-9
 array-read-run-inside-9 c = search needs
 
 run-inside-requires-3 : tie.Need-run-inside-requires-3
-run-inside-requires-3 c κs = search needs
+run-inside-requires-3 c κs = let s = c .before .before .before .before .before .before in level-few (s .args .r) (s .args .g) (s .pre)
 
 returns : tie.Need-returns
 unfolding inExtent

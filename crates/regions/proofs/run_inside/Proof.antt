@@ -15,23 +15,13 @@ add-result c = search needs
 wide-requires-3 : tie.Need-wide-requires-3
 wide-requires-3 c κs = search needs
 
-wide-requires-4 : tie.Need-wide-requires-4
-wide-requires-4 c κs = search needs
-
 extent-at-requires : tie.Need-extent-at-requires
 extent-at-requires c κs = search needs
 
 returns : tie.Need-returns
-returns c = rw (c .extent-at .ensures, c .before .before .before .before .wide .ensures .0, c .before .before .before .wide2 .ensures .0, c .before .before .wide3 .ensures .0, c .before .wide4 .ensures .0)
+returns c = rw (c .extent-at .ensures, c .before .before .before .wide .ensures .0, c .before .before .wide2 .ensures .0, c .before .wide3 .ensures .0)
 
 pub run-inside-spec : {M : Type 1} → statement M
 run-inside-spec =
     tie.close
-    (tie.spec
-    wide-requires
-    wide-requires-2
-    add-result
-    wide-requires-3
-    wide-requires-4
-    extent-at-requires
-    returns)
+    (tie.spec wide-requires wide-requires-2 add-result wide-requires-3 extent-at-requires returns)

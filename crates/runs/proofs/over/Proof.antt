@@ -2,18 +2,18 @@
 use Prim.Native.Nat.{ℕ, _/_}
 use mathlib.Core.Path.{ap}
 use native.Mathlib.Omega.{arith}
-use Rattle.runs.proofs.Lattices.{side-power}
+use Rattle.checks.proofs.Described.{side-power}
 use Rattle.runs.proofs.over.Statement.{statement}
 use Rattle.runs.proofs.over.Tie as tie
 
 cast-result : tie.Need-cast-result
-cast-result c = omega (arith, side-power (c .args .side) (c .pre) .1)
+cast-result c = omega (arith, side-power (c .args .side) (c .pre) .small)
 
 shr-result : tie.Need-shr-result
-shr-result c = side-power (c .args .side) (c .pre) .1
+shr-result c = omega (arith, side-power (c .args .side) (c .pre) .small)
 
 returns : tie.Need-returns
-returns c = ap (λ (s : ℕ). c .args .x / s) (side-power (c .args .side) (c .pre) .0)
+returns c = ap (λ (s : ℕ). c .args .x / s) (side-power (c .args .side) (c .pre) .exponent)
 
 pub over-spec : {M : Type 1} → statement M
 over-spec = tie.close (tie.spec cast-result shr-result returns)

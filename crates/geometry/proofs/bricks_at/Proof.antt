@@ -1,0 +1,40 @@
+-- `geometry::bricks_at` meets its contract. Assumes nothing.
+use mathlib.Core.Path.{_∙_}
+use native.Mathlib.Omega.{arith}
+use borrow.Author.Needs.{needs}
+use Rattle.geometry.proofs.Levels.{sizes-small, halvings, bricks-few}
+use Rattle.geometry.proofs.bricks_at.Statement.{statement}
+use Rattle.geometry.proofs.bricks_at.Tie as tie
+
+alphas-at-requires : tie.Need-alphas-at-requires
+alphas-at-requires c κs = search needs
+
+array-read-bricks-along : tie.Need-array-read-bricks-along
+array-read-bricks-along c = search needs
+
+array-read-bricks-along-2 : tie.Need-array-read-bricks-along-2
+array-read-bricks-along-2 c = search needs
+
+bricks-along-requires : tie.Need-bricks-along-requires
+bricks-along-requires c κs = search needs
+
+mul-result : tie.Need-mul-result
+mul-result c =
+    let s = c .before .before in
+    rw (c .before .alphas-at .ensures, c .bricks-along .ensures ∙ halvings (s .pre .0) (s .args .l) .2) (omega (arith, bricks-few (s .args .l) (sizes-small (s .pre .0))))
+
+returns : tie.Need-returns
+returns c =
+    let s = c .before .before in
+    rw (c .before .alphas-at .ensures, c .bricks-along .ensures ∙ halvings (s .pre .0) (s .args .l) .2)
+
+pub bricks-at-spec : {M : Type 1} → statement M
+bricks-at-spec =
+    tie.close
+    (tie.spec
+    alphas-at-requires
+    array-read-bricks-along
+    array-read-bricks-along-2
+    bricks-along-requires
+    mul-result
+    returns)
