@@ -91,6 +91,9 @@ typedef struct ZgyGrid {
 /*
  * What opening says of a cube. The host keeps it and passes it, unchanged, with the cube's bytes.
  *
+ * Level n has size / 2^n samples in each direction and size / (side x 2^n) bricks, both rounded up. The last level is the first
+ * with one brick.
+ *
  * Entries number the bricks of all levels, as the brick table has them. The highest level's single brick is entry 0, the levels
  * below it follow in turn, and level 0 comes last: the last brick of level 0 is entry bricks - 1. Inside a level inline runs
  * fastest and vertical slowest.

@@ -31,13 +31,6 @@ countAt size side l = ceilDiv size (side * 2 ^ l)
 abbrev pub bricksAt : ℕ → ℕ → ℕ → ℕ → ℕ
 bricksAt a b c l = halved a l * halved b l * halved c l
 
--- of three sizes and three sides: the bricks of level 0 in direction i, and all bricks of level l
-abbrev pub countIn : List ℕ → List ℕ → ℕ → ℕ
-countIn size side i = ceilDiv (getD size i 0) (getD side i 0)
-
-abbrev pub bricksIn : List ℕ → List ℕ → ℕ → ℕ
-bricksIn size side = bricksAt (countIn size side 0) (countIn size side 1) (countIn size side 2)
-
 -- levels, to the first with one brick. 20 is past the last level of any allowed size (law `last` of `LevelsCover`)
 abbrev pub levels : ℕ → ℕ → ℕ → ℕ
 levels a b c = first (λ l. eqb (bricksAt a b c l) 1) 20 + 1
@@ -85,6 +78,22 @@ headerEnd text alpha brick = tableStart text alpha + 8 * brick
 -- the levels and the bricks and alpha tiles of all levels
 abbrev pub shapeOf : ℕ → ℕ → ℕ → Shape
 shapeOf a b c = record { levels = levels a b c; bricks = bricks a b c; alphas = alphas a b c }
+
+-- of three sizes and three sides: the bricks of level 0 in direction i, the bricks of level l, its alpha tiles and what numbers them, and the shape
+abbrev pub countIn : List ℕ → List ℕ → ℕ → ℕ
+countIn size side i = ceilDiv (getD size i 0) (getD side i 0)
+
+abbrev pub bricksIn : List ℕ → List ℕ → ℕ → ℕ
+bricksIn size side = bricksAt (countIn size side 0) (countIn size side 1) (countIn size side 2)
+
+abbrev pub alphasIn : List ℕ → List ℕ → ℕ → ℕ
+alphasIn size side l = halved (countIn size side 0) l * halved (countIn size side 1) l
+
+abbrev pub levelAt : List ℕ → List ℕ → ℕ → Level
+levelAt size side = levelOf (countIn size side 0) (countIn size side 1) (countIn size side 2)
+
+abbrev pub shapeIn : List ℕ → List ℕ → Shape
+shapeIn size side = shapeOf (countIn size side 0) (countIn size side 1) (countIn size side 2)
 
 -- counts so small that no product or sum of them wraps: the largest size by the least side, 1,048,576 / 4, in each direction
 pub record Small (a b c : ℕ) : Type 0 where

@@ -3,7 +3,7 @@
 ghost use mathlib.Core.Path.{_≡_};
 ghost use Prim.Native.Nat.{_+_, _*_, _^_, _≤_, _<_};
 ghost use Rattle.endian.specs.Loops.{sumTo};
-ghost use Rattle.geometry.specs.Geometry.{ceilDiv, halved, extent, countAt, countIn, bricksIn, levels, bricks, levelOf, entryAt, brickBytes, tableStart, headerEnd, shapeOf, Power, Sizes};
+ghost use Rattle.geometry.specs.Geometry.{ceilDiv, extent, countAt, bricksIn, alphasIn, levelAt, shapeIn, entryAt, brickBytes, tableStart, headerEnd, Power, Sizes};
 ghost use Rattle.geometry.specs.Laws.{EntryNumbers, LevelsCover, HalvingRule};
 
 // Levels, and the bricks and alpha tiles of all levels.
@@ -57,7 +57,7 @@ fn bricks_along(size: u32, side: u32, l: u64) -> u64
 // The alpha tiles of a level: one for each column of bricks.
 fn alphas_at(size: [u32; 3], side: [u32; 3], l: u64) -> u64
     requires { ⌜ Sizes size side × (l ≤ 20) ⌝ }
-    ensures { λ r. ⌜ r ≡ halved (countIn size side 0) l * halved (countIn size side 1) l ⌝ }
+    ensures { λ r. ⌜ r ≡ alphasIn size side l ⌝ }
 {
     bricks_along(size[0], side[0], l) * bricks_along(size[1], side[1], l)
 }
@@ -73,7 +73,7 @@ fn bricks_at(size: [u32; 3], side: [u32; 3], l: u64) -> u64
 // The shape of a cube with these sizes and brick sides. Its levels go to the first with one brick.
 pub fn shape_of(size: [u32; 3], side: [u32; 3]) -> Shape
     requires { ⌜ Sizes size side ⌝ }
-    ensures { λ r. ⌜ r ≡ shapeOf (countIn size side 0) (countIn size side 1) (countIn size side 2) ⌝ }
+    ensures { λ r. ⌜ r ≡ shapeIn size side ⌝ }
 {
     let mut levels = 0;
     let mut bricks = 0;
@@ -110,8 +110,8 @@ fn bricks_below(size: [u32; 3], side: [u32; 3], n: u64) -> u64
 // Level l of a cube that has `total` bricks in all. The highest level's entries come first, so those before level l are
 // all but the entries of the levels up to l.
 pub fn level_of(size: [u32; 3], side: [u32; 3], total: u64, l: u64) -> Level
-    requires { ⌜ Sizes size side × (l < levels (countIn size side 0) (countIn size side 1) (countIn size side 2)) × (total ≡ bricks (countIn size side 0) (countIn size side 1) (countIn size side 2)) ⌝ }
-    ensures { λ v. ⌜ v ≡ levelOf (countIn size side 0) (countIn size side 1) (countIn size side 2) l ⌝ }
+    requires { ⌜ Sizes size side × (l < shapeIn size side .levels) × (total ≡ shapeIn size side .bricks) ⌝ }
+    ensures { λ v. ⌜ v ≡ levelAt size side l ⌝ }
 {
     Level {
         base: total - bricks_below(size, side, l + 1),

@@ -33,7 +33,7 @@ shr-result : tie.Need-shr-result
 shr-result c = search needs
 
 returns : tie.Need-returns
-returns c = ap (λ (d : ℕ). (c .args .n + (d - 1)) / 2 ^ c .args .k) (whole (c .args .k) (c .pre .1) .same)
+returns c = let p = whole (c .args .k) (c .pre .1) in ap (λ (x : ℕ). x / 2 ^ c .args .k) (omega (arith, p .same))
 
 pub ceil-shift-spec : {M : Type 1} → statement M
 ceil-shift-spec = tie.close (tie.spec shl-result sub-result add-result shr-result returns)

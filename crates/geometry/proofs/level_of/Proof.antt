@@ -4,7 +4,7 @@ use mathlib.Core.Path.{_≡_, sym, _∙_}
 use native.Mathlib.Omega.{arith}
 use borrow.Author.Needs.{needs}
 use Rattle.endian.specs.Loops.{sumTo}
-use Rattle.geometry.specs.Geometry.{countIn, bricksIn, levelBase}
+use Rattle.geometry.specs.Geometry.{countIn, bricksIn, levelAt}
 use Rattle.geometry.proofs.Levels.{levels-le, halvings}
 use Rattle.geometry.proofs.Entries.{base-rest}
 use Rattle.geometry.proofs.level_of.Statement.{statement}
@@ -16,7 +16,7 @@ few c = omega (arith, c .pre .1, levels-le (countIn (c .args .t1) (c .args .t2) 
 
 -- the entries before the level
 abbrev base : (c : tie.Start) → ℕ
-base c = levelBase (countIn (c .args .t1) (c .args .t2) 0) (countIn (c .args .t1) (c .args .t2) 1) (countIn (c .args .t1) (c .args .t2) 2) (c .args .l)
+base c = levelAt (c .args .t1) (c .args .t2) (c .args .l) .base
 
 -- with those of the levels up to it they are all
 base-all : (c : tie.Start) → base c + sumTo (bricksIn (c .args .t1) (c .args .t2)) (c .args .l + 1) ≡ c .args .total

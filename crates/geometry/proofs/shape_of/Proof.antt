@@ -11,24 +11,20 @@ use borrow.Author.Count.{below-more}
 use borrow.Author.Tests.{eq-eqb, ne-eqb}
 use Rattle.endian.specs.Loops.{sumTo}
 use Rattle.endian.proofs.Search.{clash, sum-none, sum-more}
-use Rattle.geometry.specs.Geometry.{halved, countIn, bricksIn, levels, alphas, shapeOf, Sizes}
+use Rattle.geometry.specs.Geometry.{bricksIn, alphasIn, shapeIn, Sizes}
 use Rattle.geometry.specs.declared.Shape.{Shape}
 use Rattle.geometry.proofs.Levels.{levels-at, sizes-small, sizes-single, tiles-few, bricks-few, sum-most}
 use Rattle.geometry.proofs.shape_of.Statement.{statement}
 use Rattle.geometry.proofs.shape_of.Tie as tie
 
--- the alpha tiles of level l
-abbrev tiles : List ℕ → List ℕ → ℕ → ℕ
-tiles size side l = halved (countIn size side 0) l * halved (countIn size side 1) l
-
 record Counted (size side : List ℕ) (l bricks alphas : ℕ) : Type 0 where
   pub many : (j : ℕ) → j < l → eqb (bricksIn size side j) 1 ≡ false
   pub bricks-sum : bricks ≡ sumTo (bricksIn size side) l
-  pub alphas-sum : alphas ≡ sumTo (tiles size side) l
+  pub alphas-sum : alphas ≡ sumTo (alphasIn size side) l
 
 module _ {size side : List ℕ} (s : Sizes size side) where
   counted-start : Counted size side 0 0 0
-  counted-start = record { many = λ j h. absurd (omega arith); bricks-sum = sym (sum-none (bricksIn size side)); alphas-sum = sym (sum-none (tiles size side)) }
+  counted-start = record { many = λ j h. absurd (omega arith); bricks-sum = sym (sum-none (bricksIn size side)); alphas-sum = sym (sum-none (alphasIn size side)) }
 
   module _ {l bricks alphas : ℕ} (h : Counted size side l bricks alphas) where
     -- level 18 has one brick, so the search has not passed it
@@ -39,26 +35,26 @@ module _ {size side : List ℕ} (s : Sizes size side) where
           | no g ↦ clash _ (eq-eqb (bricksIn size side 18) 1 (sizes-single s)) (h .many 18 (lt-of-not-le g))
         ]
 
-    counted-small : (bricks + bricksIn size side l ≤ 342273571680157696) × (alphas + tiles size side l ≤ 1305670057984)
+    counted-small : (bricks + bricksIn size side l ≤ 342273571680157696) × (alphas + alphasIn size side l ≤ 1305670057984)
     counted-small = (
       omega (arith, h .bricks-sum, counted-few, bricks-few l (sizes-small s), sum-most (bricksIn size side) 18014398509481984 (λ m. bricks-few m (sizes-small s)) l),
-      omega (arith, h .alphas-sum, counted-few, tiles-few l (sizes-small s), sum-most (tiles size side) 68719476736 (λ m. tiles-few m (sizes-small s)) l),
+      omega (arith, h .alphas-sum, counted-few, tiles-few l (sizes-small s), sum-most (alphasIn size side) 68719476736 (λ m. tiles-few m (sizes-small s)) l),
     )
 
-    counted-more : {x y : ℕ} → x ≡ bricksIn size side l → y ≡ tiles size side l → (x ≡ 1 → ⊥) → Counted size side (l + 1) (bricks + x) (alphas + y)
+    counted-more : {x y : ℕ} → x ≡ bricksIn size side l → y ≡ alphasIn size side l → (x ≡ 1 → ⊥) → Counted size side (l + 1) (bricks + x) (alphas + y)
     counted-more ex ey n =
         record {
           many = below-more _ _ (h .many) (ne-eqb (bricksIn size side l) 1 (λ e. n (ex ∙ e)));
           bricks-sum = omega (arith, h .bricks-sum, ex, sum-more (bricksIn size side) l);
-          alphas-sum = omega (arith, h .alphas-sum, ey, sum-more (tiles size side) l);
+          alphas-sum = omega (arith, h .alphas-sum, ey, sum-more (alphasIn size side) l);
         }
 
-    counted-last : {x y : ℕ} → x ≡ bricksIn size side l → y ≡ tiles size side l → x ≡ 1
-        → _≡_ {A = Shape} (record { levels = l + 1; bricks = bricks + x; alphas = alphas + y }) (shapeOf (countIn size side 0) (countIn size side 1) (countIn size side 2))
+    counted-last : {x y : ℕ} → x ≡ bricksIn size side l → y ≡ alphasIn size side l → x ≡ 1
+        → _≡_ {A = Shape} (record { levels = l + 1; bricks = bricks + x; alphas = alphas + y }) (shapeIn size side)
     counted-last {x} {y} ex ey one =
-        let n : l + 1 ≡ levels (countIn size side 0) (countIn size side 1) (countIn size side 2) = levels-at _ _ _ l (omega (arith, counted-few)) (h .many) (λ _. eq-eqb _ 1 (sym ex ∙ one)) in
+        let n : l + 1 ≡ shapeIn size side .levels = levels-at _ _ _ l (omega (arith, counted-few)) (h .many) (λ _. eq-eqb _ 1 (sym ex ∙ one)) in
         let p : bricks + x ≡ sumTo (bricksIn size side) (l + 1) = omega (arith, h .bricks-sum, ex, sum-more (bricksIn size side) l) in
-        let q : alphas + y ≡ sumTo (tiles size side) (l + 1) = omega (arith, h .alphas-sum, ey, sum-more (tiles size side) l) in
+        let q : alphas + y ≡ sumTo (alphasIn size side) (l + 1) = omega (arith, h .alphas-sum, ey, sum-more (alphasIn size side) l) in
         rw (p, q, n)
 
 abbrev Inv-loop : tie.InvT-loop
