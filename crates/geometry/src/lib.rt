@@ -28,17 +28,18 @@ pub fn ceil_div(n: u64, d: u64) -> u64
     (n + (d - 1)) / d
 }
 
-// n / 2^k, rounded up, by one sum and one shift.
+// n / 2^k, rounded up, by one shift and one sum. Of n samples the last is number n - 1, and it lies in part (n - 1) / 2^k, both counted
+// from 0.
 fn ceil_shift(n: u64, k: u64) -> u64
-    requires { ⌜ (n < 4294967296) × (k ≤ 32) ⌝ }
+    requires { ⌜ (1 ≤ n) × (k < 64) ⌝ }
     ensures { λ r. ⌜ r ≡ ceilDiv n (2 ^ k) ⌝ }
 {
-    (n + ((1 << k) - 1)) >> k
+    ((n - 1) >> k) + 1
 }
 
 // A level's extent in samples, in a direction of this size: size / 2^l, rounded up.
 pub fn extent_at(size: u32, l: u64) -> u64
-    requires { ⌜ l ≤ 20 ⌝ }
+    requires { ⌜ (1 ≤ size) × (l ≤ 20) ⌝ }
     ensures { λ r. ⌜ r ≡ extent size l ⌝ }
 {
     ceil_shift(size as u64, l)
@@ -47,8 +48,8 @@ pub fn extent_at(size: u32, l: u64) -> u64
 // A level's bricks in a direction of this size and brick side: size / (side x 2^l), rounded up. A side is a power of two, so this is
 // the extent's sum and shift, with the side's zeros added to the shift. That it is also the extent / side, rounded up, and the halving
 // from level to level, says `halving_rule`.
-fn bricks_along(size: u32, side: u32, l: u64) -> u64
-    requires { ⌜ Power side × (l ≤ 20) ⌝ }
+fn count_at(size: u32, side: u32, l: u64) -> u64
+    requires { ⌜ (1 ≤ size) × Power side × (l ≤ 20) ⌝ }
     ensures { λ r. ⌜ r ≡ countAt size side l ⌝ }
 {
     ceil_shift(size as u64, u64::trailing_zeros(side as u64) as u64 + l)
@@ -59,7 +60,7 @@ fn alphas_at(size: [u32; 3], side: [u32; 3], l: u64) -> u64
     requires { ⌜ Sizes size side × (l ≤ 20) ⌝ }
     ensures { λ r. ⌜ r ≡ alphasIn size side l ⌝ }
 {
-    bricks_along(size[0], side[0], l) * bricks_along(size[1], side[1], l)
+    count_at(size[0], side[0], l) * count_at(size[1], side[1], l)
 }
 
 // The bricks of a level.
@@ -67,7 +68,7 @@ fn bricks_at(size: [u32; 3], side: [u32; 3], l: u64) -> u64
     requires { ⌜ Sizes size side × (l ≤ 20) ⌝ }
     ensures { λ r. ⌜ r ≡ bricksIn size side l ⌝ }
 {
-    alphas_at(size, side, l) * bricks_along(size[2], side[2], l)
+    alphas_at(size, side, l) * count_at(size[2], side[2], l)
 }
 
 // The shape of a cube with these sizes and brick sides. Its levels go to the first with one brick.
@@ -115,8 +116,8 @@ pub fn level_of(size: [u32; 3], side: [u32; 3], total: u64, l: u64) -> Level
 {
     Level {
         base: total - bricks_below(size, side, l + 1),
-        inline: bricks_along(size[0], side[0], l),
-        crossline: bricks_along(size[1], side[1], l),
+        inline: count_at(size[0], side[0], l),
+        crossline: count_at(size[1], side[1], l),
     }
 }
 

@@ -71,7 +71,7 @@ fn wide(x: u32) -> u64
 
 // A run has a sample and lies in the level's extent. A start and a count of 32 bits each are added in 64.
 fn run_inside(start: u32, count: u32, size: u32, level: u32) -> bool
-    requires { ⌜ level ≤ 20 ⌝ }
+    requires { ⌜ (1 ≤ size) × (level ≤ 20) ⌝ }
     ensures { λ b. ⌜ b ≡ leb 1 count && leb (start + count) (extent size level) ⌝ }
 {
     (1 <= count) & (wide(start) + wide(count) <= extent_at(size, wide(level)))

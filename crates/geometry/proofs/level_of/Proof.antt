@@ -31,23 +31,23 @@ bricks-below-requires c κs = (c .pre .0, omega (arith, few c))
 sub-t11 : tie.Need-sub-t11
 sub-t11 c = omega (arith, base-all (c .before), c .bricks-below .ensures)
 
-array-read-bricks-along : tie.Need-array-read-bricks-along
-array-read-bricks-along c = search needs
+array-read-count-at : tie.Need-array-read-count-at
+array-read-count-at c = search needs
 
-array-read-bricks-along-2 : tie.Need-array-read-bricks-along-2
-array-read-bricks-along-2 c = search needs
+array-read-count-at-2 : tie.Need-array-read-count-at-2
+array-read-count-at-2 c = search needs
 
-bricks-along-requires : tie.Need-bricks-along-requires
-bricks-along-requires c κs = (c .before .pre .0 .power0, few (c .before))
+count-at-requires : tie.Need-count-at-requires
+count-at-requires c κs = (c .before .pre .0 .size0 .low, c .before .pre .0 .power0, few (c .before))
 
-array-read-bricks-along-3 : tie.Need-array-read-bricks-along-3
-array-read-bricks-along-3 c = search needs
+array-read-count-at-3 : tie.Need-array-read-count-at-3
+array-read-count-at-3 c = search needs
 
-array-read-bricks-along-4 : tie.Need-array-read-bricks-along-4
-array-read-bricks-along-4 c = search needs
+array-read-count-at-4 : tie.Need-array-read-count-at-4
+array-read-count-at-4 c = search needs
 
-bricks-along-requires-2 : tie.Need-bricks-along-requires-2
-bricks-along-requires-2 c κs = (c .before .before .pre .0 .power1, few (c .before .before))
+count-at-requires-2 : tie.Need-count-at-requires-2
+count-at-requires-2 c κs = (c .before .before .pre .0 .size1 .low, c .before .before .pre .0 .power1, few (c .before .before))
 
 returns : tie.Need-returns
 returns c =
@@ -55,7 +55,7 @@ returns c =
     let s = b .before in
     let e = halvings (s .pre .0) (s .args .l) in
     let first : s .args .total - b .bricks-below .result ≡ base s = omega (arith, base-all s, b .bricks-below .ensures) in
-    rw (first, c .before .bricks-along .ensures ∙ e .0, c .bricks-along2 .ensures ∙ e .1)
+    rw (first, c .before .count-at .ensures ∙ e .0, c .count-at2 .ensures ∙ e .1)
 
 pub level-of-spec : {M : Type 1} → statement M
 level-of-spec =
@@ -64,10 +64,10 @@ level-of-spec =
     add-bricks-below
     bricks-below-requires
     sub-t11
-    array-read-bricks-along
-    array-read-bricks-along-2
-    bricks-along-requires
-    array-read-bricks-along-3
-    array-read-bricks-along-4
-    bricks-along-requires-2
+    array-read-count-at
+    array-read-count-at-2
+    count-at-requires
+    array-read-count-at-3
+    array-read-count-at-4
+    count-at-requires-2
     returns)

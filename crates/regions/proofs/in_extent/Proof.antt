@@ -1,9 +1,17 @@
 -- `regions::in_extent` meets its contract. Assumes nothing.
-use Rattle.cube.specs.Regions.{inExtent}
+use Prim.Native.Nat.{_≤_}
 use borrow.Author.Needs.{needs}
-use Rattle.runs.proofs.Lattices.{level-few}
+use Rattle.record.specs.Record.{Sized}
+use Rattle.cube.specs.Regions.{inExtent}
+use Rattle.runs.proofs.Lattices.{level-asks, level-few}
 use Rattle.regions.proofs.in_extent.Statement.{statement}
 use Rattle.regions.proofs.in_extent.Tie as tie
+
+sized : (c : tie.Start) → Sized (c .args .r .description)
+sized c = level-asks (c .args .r) (c .args .g) (c .pre) .0
+
+few : (c : tie.Start) → c .args .g .level ≤ 20
+few c = level-few (c .args .r) (c .args .g) (c .pre)
 
 array-read-run-inside : tie.Need-array-read-run-inside
 array-read-run-inside c = search needs
@@ -15,7 +23,7 @@ array-read-run-inside-3 : tie.Need-array-read-run-inside-3
 array-read-run-inside-3 c = search needs
 
 run-inside-requires : tie.Need-run-inside-requires
-run-inside-requires c κs = let s = c .before .before .before .before in level-few (s .args .r) (s .args .g) (s .pre)
+run-inside-requires c κs = let s = c .before .before .before .before in (sized s .size0 .low, few s)
 
 array-read-run-inside-4 : tie.Need-array-read-run-inside-4
 array-read-run-inside-4 c = search needs
@@ -27,7 +35,7 @@ array-read-run-inside-6 : tie.Need-array-read-run-inside-6
 array-read-run-inside-6 c = search needs
 
 run-inside-requires-2 : tie.Need-run-inside-requires-2
-run-inside-requires-2 c κs = let s = c .before .before .before .before .before in level-few (s .args .r) (s .args .g) (s .pre)
+run-inside-requires-2 c κs = let s = c .before .before .before .before .before in (sized s .size1 .low, few s)
 
 array-read-run-inside-7 : tie.Need-array-read-run-inside-7
 array-read-run-inside-7 c = search needs
@@ -39,7 +47,7 @@ array-read-run-inside-9 : tie.Need-array-read-run-inside-9
 array-read-run-inside-9 c = search needs
 
 run-inside-requires-3 : tie.Need-run-inside-requires-3
-run-inside-requires-3 c κs = let s = c .before .before .before .before .before .before in level-few (s .args .r) (s .args .g) (s .pre)
+run-inside-requires-3 c κs = let s = c .before .before .before .before .before .before in (sized s .size2 .low, few s)
 
 returns : tie.Need-returns
 unfolding inExtent
