@@ -1,5 +1,5 @@
 -- Rounding up, halving, the last level, and what the counts of all levels are bounded by. Assumes nothing.
-use mathlib.Core.Path.{_≡_, sym, ap, _∙_}
+use mathlib.Core.Path.{_≡_, refl, sym, ap, _∙_}
 use mathlib.Core.Logic.{⊎-elim}
 use mathlib.Core.Bool.{Bool, true, false}
 use mathlib.Core.List.{List}
@@ -10,7 +10,7 @@ use lib.Pow.{pow-pos}
 use lib.Dec.{eqb}
 use lib.ListN.{getD}
 use borrow.Author.Tests.{eqb-true, eq-eqb}
-use Rattle.endian.specs.Loops.{first, sumTo}
+use Rattle.endian.specs.Loops.{first, firstFrom, sumTo}
 use Rattle.endian.proofs.Search.{clash, first-le, first-upto, first-at, first-before, first-is}
 use Rattle.geometry.specs.Geometry.{ceilDiv, halved, extent, countAt, countIn, bricksAt, bricksIn, levels, bricks, alphas, Small, Sizes}
 use Rattle.geometry.specs.Laws.{AllowedSize, LastLevel, LevelsCover, OneCount, HalvingRule}
@@ -136,6 +136,15 @@ one-count {size} {side} l h =
 pub halving-rule : HalvingRule
 halving-rule n0 n1 n2 s0 s1 s2 l h0 h1 h2 _ = (one-count l h0, one-count l h1, one-count l h2)
 
+-- what the rule asks for can be met: sizes (9,4,4) and sides of 4, at the last of three levels
+halving-met : OneCount 9 4 2 × OneCount 4 4 2 × OneCount 4 4 2
+unfolding firstFrom halved
+halving-met =
+    let three : levels (ceilDiv 9 4) (ceilDiv 4 4) (ceilDiv 4 4) ≡ 3 = refl in
+    let nine : AllowedSize 9 4 = record { some = omega arith; most = omega arith; least = omega arith } in
+    let four : AllowedSize 4 4 = record { some = omega arith; most = omega arith; least = omega arith } in
+    halving-rule 9 4 4 4 4 4 2 nine four four (omega (arith, three))
+
 pub levels-le : (a b c : ℕ) → levels a b c ≤ 21
 levels-le a b c = omega (arith, first-le (λ m. eqb (bricksAt a b c m) 1) 20)
 
@@ -194,7 +203,9 @@ module _ {size side : List ℕ} (s : Sizes size side) where
   sizes-small = let h = sizes-allowed in allowed-small (h .0) (h .1) (h .2)
 
   -- the code's counts are the halving's
-  pub halvings : (l : ℕ) → (countAt (getD size 0 0) (getD side 0 0) l ≡ halved (countIn size side 0) l) × (countAt (getD size 1 0) (getD side 1 0) l ≡ halved (countIn size side 1) l) × (countAt (getD size 2 0) (getD side 2 0) l ≡ halved (countIn size side 2) l)
+  pub halvings : (l : ℕ) → (countAt (getD size 0 0) (getD side 0 0) l ≡ halved (countIn size side 0) l)
+      × (countAt (getD size 1 0) (getD side 1 0) l ≡ halved (countIn size side 1) l)
+      × (countAt (getD size 2 0) (getD side 2 0) l ≡ halved (countIn size side 2) l)
   halvings l = (one-count l (sizes-allowed .0) .halving, one-count l (sizes-allowed .1) .halving, one-count l (sizes-allowed .2) .halving)
 
   -- level 18 has one brick

@@ -8,7 +8,9 @@ use Rattle.geometry.proofs.brick_bytes.Statement.{statement}
 use Rattle.geometry.proofs.brick_bytes.Tie as tie
 
 -- its partial products
-few : (c : tie.Start) → (c .args .s0 * c .args .s1 ≤ 65536) × (c .args .s0 * c .args .s1 * c .args .s2 ≤ 16777216) × (brickBytes (c .args .s0) (c .args .s1) (c .args .s2) (c .args .w) ≤ 67108864)
+few : (c : tie.Start) → (c .args .s0 * c .args .s1 ≤ 65536)
+    × (c .args .s0 * c .args .s1 * c .args .s2 ≤ 16777216)
+    × (brickBytes (c .args .s0) (c .args .s1) (c .args .s2) (c .args .w) ≤ 67108864)
 few c =
     let two : c .args .s0 * c .args .s1 ≤ 65536 = mul-le-mul (c .pre .0) (c .pre .1) in
     let three : c .args .s0 * c .args .s1 * c .args .s2 ≤ 16777216 = mul-le-mul two (c .pre .2) in

@@ -27,7 +27,8 @@ add-sum c =
     let s = c .before .before .before in
     let few = sizes-small (s .pre .0) in
     let l = c .before .before .loop .l in
-    omega (arith, c .before .before .loop .inv .1, c .bricks-at .ensures, bricks-few l few, sum-most (bricksIn (s .args .size) (s .args .side)) 18014398509481984 (λ m. bricks-few m few) l)
+    let most = sum-most (bricksIn (s .args .size) (s .args .side)) 18014398509481984 (λ m. bricks-few m few) l in
+    omega (arith, c .before .before .loop .inv .1, c .bricks-at .ensures, bricks-few l few, most)
 
 add-l : tie.Need-add-l Inv-loop μ-loop
 add-l c = omega arith
