@@ -5,7 +5,7 @@ use Prim.Native.Nat.{ℕ}
 use lib.Dec.{eqb}
 use lib.ListN.{getD, length, replicate}
 use lib.Ieee.{Float, binary32, ofBits}
-use Rattle.geometry.specs.Geometry.{ceilDiv, halved, extent, levels, bricks, alphas, brickBytes, tableStart, headerEnd, Sizes}
+use Rattle.geometry.specs.Geometry.{countIn, halved, extent, levels, bricks, alphas, brickBytes, tableStart, headerEnd, Sizes}
 use Rattle.record.specs.Types.{widthOf}
 use Rattle.record.specs.declared.Description.{Description}
 use Rattle.record.specs.declared.Grid.{Grid}
@@ -20,7 +20,7 @@ sideOf d i = getD (d .side) i 0
 
 -- the bricks of level 0 in direction i
 abbrev pub countOf : Description → ℕ → ℕ
-countOf d i = ceilDiv (sizeOf d i) (sideOf d i)
+countOf d = countIn (d .size) (d .side)
 
 -- the bricks of level l in direction i, and the level's extent in samples
 abbrev pub bricksAlong : Description → ℕ → ℕ → ℕ

@@ -4,9 +4,9 @@ use mathlib.Core.List.{List}
 use mathlib.Core.Path.{_≡_}
 use Prim.Native.Nat.{ℕ, _+_, _≤_, _<_}
 use lib.ListN.{length}
-use Rattle.geometry.specs.Geometry.{levelOf}
+use Rattle.geometry.specs.Geometry.{levelAt}
 use Rattle.geometry.specs.declared.Level.{Level}
-use Rattle.record.specs.Record.{sideOf, countOf, tableOf, headerOf, brickBytesOf}
+use Rattle.record.specs.Record.{sideOf, tableOf, headerOf, brickBytesOf}
 use Rattle.record.specs.declared.Description.{Description}
 use Rattle.record.specs.declared.Record.{Record}
 use Rattle.checks.specs.Fits.{recordFits}
@@ -18,7 +18,7 @@ use Rattle.runs.specs.declared.Lattice.{Lattice}
 
 -- what numbers the bricks of level l
 abbrev pub levelIn : Description → ℕ → Level
-levelIn d l = levelOf (countOf d 0) (countOf d 1) (countOf d 2) l
+levelIn d = levelAt (d .size) (d .side)
 
 -- the lattice of a region
 unfoldable pub latticeOf : Record → Region → Lattice
