@@ -38,7 +38,7 @@ array-read-count-at-2 : tie.Need-array-read-count-at-2
 array-read-count-at-2 c = search needs
 
 count-at-requires : tie.Need-count-at-requires
-count-at-requires c κs = (c .before .pre .0 .size0 .low, c .before .pre .0 .power0, few (c .before))
+count-at-requires c κs = let h = few (c .before) in search needs
 
 array-read-count-at-3 : tie.Need-array-read-count-at-3
 array-read-count-at-3 c = search needs
@@ -47,7 +47,7 @@ array-read-count-at-4 : tie.Need-array-read-count-at-4
 array-read-count-at-4 c = search needs
 
 count-at-requires-2 : tie.Need-count-at-requires-2
-count-at-requires-2 c κs = (c .before .before .pre .0 .size1 .low, c .before .before .pre .0 .power1, few (c .before .before))
+count-at-requires-2 c κs = let h = few (c .before .before) in search needs
 
 returns : tie.Need-returns
 returns c =
