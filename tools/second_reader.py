@@ -1,5 +1,5 @@
 #!/usr/bin/env python3
-"""A second reader and maker of ZGY cubes, written from the format's and the build's papers alone.
+"""A second reader and maker of ZGY cubes, by docs/FORMAT.md alone.
 
 It shares nothing with the crates: what it reads and makes is what they are compared with. The standard library is enough.
 
@@ -780,7 +780,7 @@ def listing(file):
 NO_STRINGS = bytes(5)
 STRINGS = b"survey\0first pass\0local grid\0m\0ms\0"
 
-# Worked number 13, as the paper prints it.
+# Worked number 13, as FORMAT 15 prints it.
 WORKED_13 = b"""\
 version 3
 type 0
@@ -937,7 +937,7 @@ def write_listings():
     files = listed_files()
     expect_numbers(files)
     if listing(files["worked_13"]) != WORKED_13:
-        raise SystemExit("worked number 13 is listed otherwise than the paper prints it")
+        raise SystemExit("worked number 13 is listed otherwise than FORMAT 15 prints it")
     single = ROOT / "crates" / "listing"
     many = ROOT / "crates" / "listings"
     (many / "data").mkdir(parents=True, exist_ok=True)
@@ -974,6 +974,7 @@ CALLS = [
     "seed",      # the number that the bytes to write, and the bricks to permute, follow from
     "put",       # where, and the low and the high half of the 8 bytes put there
     "lend",      # how many bytes of the file are lent from now on
+    "strings",   # nothing: all strings, by a walker
     "field",     # the field of the record that is changed, its part, and the low and the high half of its value
 ]
 
@@ -1020,7 +1021,7 @@ def double_bits(number):
 
 
 def shown_float(number):
-    """A 64-bit float as its bits. What the bits of a NaN are is not told here."""
+    """A 64-bit float as its bits. A proved program sees of a NaN only that it is one: its bits are the host's tests' to compare."""
     return "nan" if math.isnan(number) else f"{double_bits(number):016x}"
 
 
@@ -1032,6 +1033,15 @@ def byte_lines(content):
 
 def hash_of_floats(numbers):
     return fnv(b"".join(struct.pack("<Q", double_bits(number)) for number in numbers))
+
+
+def turn(strings, number):
+    """What turn number of the strings says."""
+    if number >= len(strings):
+        return "done"
+    start = sum(len(text) + 1 for text in strings[:number])
+    end = start + len(strings[number])
+    return f"item {start} {end} {end + 1}"
 
 
 class Session:
@@ -1111,13 +1121,23 @@ class Session:
             return [refused(refusal)]
 
     def string(self, number):
-        """A string, or an empty one past the fifth."""
+        """Where a string starts and ends in the text, and where the next one starts; past the fifth, done."""
         try:
             strings = five_strings(self.file, self.record)
         except Refusal as refusal:
-            return [f"{refused(refusal)} 0"]
-        text = strings[number] if number < len(strings) else b""
-        return [f"taken {len(text)}"] + byte_lines(text)
+            return [refused(refusal)]
+        return [turn(strings, number)]
+
+    def strings(self):
+        """A walk of six turns, each with the verdict: the five strings, and then done; refused, every turn says so."""
+        try:
+            strings = five_strings(self.file, self.record)
+        except Refusal as refusal:
+            said = f"{refused(refusal)} {refused(refusal)}"
+            return [said] + [f" {said}"] * 5
+        walk = [[f" taken {turn(strings, number)}"] + byte_lines(text) for number, text in enumerate(strings + [b""])]
+        first, *rest = (line for lines in walk for line in lines)
+        return [first.strip()] + rest
 
     def permuted(self, side, width, length, room, plain):
         buffer = bytearray([UNTOUCHED_BYTE]) * room
@@ -1215,6 +1235,10 @@ ODD_FLOATS = [
     0x00000000, 0x80000000, 0x00000001, 0x80000001, 0x007FFFFF, 0x807FFFFF, 0x00800000, 0x80800000, 0x3F800000, 0xBF800000,
     0x3F800001, 0x3F7FFFFF, 0x7F7FFFFF, 0xFF7FFFFF, 0x7F800000, 0xFF800000,
 ]
+
+
+# NaNs: quiet, signalling, negative, and with a payload.
+NANS = [0x7FC00000, 0xFFC00000, 0x7F800001, 0xFF800001, 0x7FC12345, 0xFFD54321, 0x7FBFFFFF, 0xFFFFFFFF]
 
 
 def no_nan(bits):
@@ -1359,9 +1383,34 @@ def highest_first():
     return file, calls
 
 
+SPECIALS = Description(type=FLOAT32, size=(4, 4, 8))
+
+
+def specials():
+    """A float cube of NaNs and of floats at the ends of every kind: a stored brick of all, and constant bricks of each in turn."""
+    floats = NANS + ODD_FLOATS
+    count = math.prod(SPECIALS.side)
+    header = SPECIALS.header_end(NO_STRINGS)
+    samples = struct.pack(f"<{count}I", *(floats[item % len(floats)] for item in range(count)))
+    file = build(SPECIALS, NO_STRINGS, [constant(NANS[3]), header, constant(NANS[0])], {header: samples})
+    calls = [(call, *whole_level(SPECIALS, level)) for level in (0, 1) for call in ("raw", "float")] + [("kind", 0)]
+    for bits in floats:
+        calls += [put_entry(open_record(file), 2, constant(bits)), ("kind", 2), ("float", 0, 3, 3, 3, 1, 1, 2)]
+    return file, calls
+
+
+def expect_specials():
+    """The widening of every kind of float, by the bits that FORMAT 11.2 gives or that IEEE 754 does."""
+    for bits in NANS:
+        expect(double_bits(widened(bits)), 0x7FF8000000000000, "the one pattern of a NaN")
+    ends = {0x7F800000: 0x7FF0000000000000, 0xFF800000: 0xFFF0000000000000, 0x80000000: 0x8000000000000000, 0x00000001: 0x36A0000000000000}
+    for bits, wide in ends.items():
+        expect(double_bits(widened(bits)), wide, "a float widened exactly")
+
+
 def expect(found, promised, what):
     if found != promised:
-        raise SystemExit(f"{what}: {found}, and the paper says {promised}")
+        raise SystemExit(f"{what}: {found}, and FORMAT says {promised}")
 
 
 def expect_order(description):
@@ -1382,7 +1431,7 @@ def expect_highest_first():
 
 
 def expect_worked_numbers():
-    """The worked numbers, as the paper prints them."""
+    """The worked numbers, as FORMAT 15 prints them."""
     expect([math.prod(n) for n in CASE_1.counts], [6, 2, 1], "worked number 1, bricks")
     expect([i * j for i, j, _ in CASE_1.counts], [2, 1, 1], "worked number 1, alpha")
     expect(CASE_1.header_end(NO_STRINGS), 2519, "worked number 2")
@@ -1494,7 +1543,15 @@ def place_calls(record):
         indices = sorted({0, 1, size // 2, size - 1, size, LARGEST_U32})
         calls += [("position", dimension, index) for index in indices]
     calls += [("position", 3, 0), ("position", LARGEST_U32, 0)]
-    return calls + [("string", number) for number in (0, 1, 2, 3, 4, 5, LARGEST_U32)]
+    return calls + [("string", number) for number in (0, 1, 2, 3, 4, 5, LARGEST_U32)] + [("strings",)]
+
+
+def text_calls(file, record):
+    """A text spoilt after opening: the strings are refused by 11, and by 14 where the file has another length too."""
+    spoilt = ("put", TEXT_AT, LARGEST_U32, LARGEST_U32)
+    mended = ("put", TEXT_AT, *struct.unpack_from("<II", file, TEXT_AT))
+    refused_by_14 = [("lend", record.length - 1), ("strings",), ("string", 0), ("lend", record.length)]
+    return [spoilt, ("strings",), ("string", 0), *refused_by_14, mended, ("strings",)]
 
 
 def halves(number):
@@ -1556,7 +1613,7 @@ def every_call(record):
     """One call of each kind, to be refused by 14."""
     whole = whole_level(record.description, 0)
     return [("kind", 0), ("view", 0, 0, 1, 0, 0), ("raw", *whole), ("float", *whole), ("write", *whole), ("position", 0, 0),
-            ("string", 0)]
+            ("string", 0), ("strings",)]
 
 
 def misfit_calls(record):
@@ -1618,6 +1675,7 @@ def standard_calls(seed, file):
     return [
         *kind_calls(file, record),
         *place_calls(record),
+        *text_calls(file, record),
         *read_calls(record, chance),
         *write_calls(file, record, chance),
         *damaged_calls(file, record),
@@ -1650,6 +1708,7 @@ def vector_files():
     files = {
         "case_1": case_1(),
         "highest_first": highest_first(),
+        "specials": specials(),
         "worked_11": (worked_11(), [("kind", 0), ("raw", 0, 0, 0, 0, 1, 1, 4), ("float", 0, 0, 0, 0, 1, 1, 4)]),
         "worked_12": (worked_12(), [("position", 0, index) for index in range(5)]),
         "made_constant": (constants, standard_calls(5, constants)),
@@ -1687,6 +1746,7 @@ def write_vectors():
     """Writes the cubes and the calls that the program vectors is run on, and the answers that it must write."""
     expect_worked_numbers()
     expect_highest_first()
+    expect_specials()
     files = vector_files()
     folder = ROOT / "crates" / "vectors"
     (folder / "data").mkdir(parents=True, exist_ok=True)

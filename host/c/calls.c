@@ -1,6 +1,6 @@
 /*
  * Every call of zgy.h from C and from C++: that the header compiles as both, that structs cross the boundary as declared, and what
- * a refused call answers besides its number. Expected numbers are the build paper's worked numbers, or counted by hand.
+ * a refused call answers besides its number. Expected numbers are the worked numbers of docs/FORMAT.md, or counted by hand.
  */
 #include "zgy.h"
 

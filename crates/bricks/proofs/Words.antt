@@ -11,12 +11,11 @@ use lib.ListN.{getD}
 use borrow.Author.Count.{below-more}
 use borrow.Author.Tests.{eq-eqb, eqb-true, not-false}
 use Rattle.endian.specs.Bytes.{Bytes, le, lows}
-use Rattle.endian.specs.Loops.{first}
 use Rattle.endian.proofs.Loads.{four}
 use Rattle.endian.proofs.Search.{first-is, first-before}
-use Rattle.table.specs.Windows.{Width, Decides}
+use Rattle.table.specs.Entries.{Width}
 use Rattle.bricks.specs.Bricks.{filledWith}
-use Rattle.bricks.specs.Filler.{Repeats, Words}
+use Rattle.bricks.specs.Filler.{Repeats, Words, Same}
 
 -- ---- differences, gathered
 or-none : (a b : ℕ) → bitOr a b ≡ 0 → (a ≡ 0) × (b ≡ 0)
@@ -43,7 +42,7 @@ gathered-more f word i d x e g = record {
       rw (g .none (λ k h. all k (omega arith)), y) (xor-self word);
 }
 
-pub decided : (f : List ℕ) (word i n d : ℕ) → i ≡ n → Gathered f word i d → Decides (Words f word n) (eqb d 0)
+pub decided : (f : List ℕ) (word i n d : ℕ) → i ≡ n → Gathered f word i d → Same f word n (eqb d 0)
 decided f word i n d e g = record {
   holds = λ t. rw e at (g .same (eqb-true d 0 t));
   fails = λ t all. clash (sym t ∙ eq-eqb d 0 (g .none (rw e all)));
@@ -155,7 +154,7 @@ module _ (f : List ℕ) (w v word : ℕ) (width : Width w) (repeats : Repeats w 
       eqb-true (getD f i 0) (getD (lows w v) (i % w) 0) (not-false _ (first-before (λ i. not (eqb (getD f i 0) (getD (lows w v) (i % w) 0))) n i (rw m h)))
 
   -- whether the words are all this word is whether the bytes are the value's throughout
-  pub filled-is : (q n : ℕ) (b : Bool) → Bytes f → word < 4294967296 → n ≡ 4 * q → Decides (Words f word q) b → b ≡ filledWith (lows w v) f w n
+  pub filled-is : (q n : ℕ) (b : Bool) → Bytes f → word < 4294967296 → n ≡ 4 * q → Same f word q b → b ≡ filledWith (lows w v) f w n
   filled-is q n true bs small e d = rw e (sym (filled-of (4 * q) (in-bytes q bs (d .holds refl))))
   filled-is q n false bs small e d = rw e (go (filledWith (lows w v) f w (4 * q)) refl)
     where

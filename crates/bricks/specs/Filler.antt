@@ -1,4 +1,5 @@
 -- What the calls of this crate ask of a kind and answer of words, for the filler's check.
+use mathlib.Core.Bool.{Bool, true, false}
 use mathlib.Core.List.{List}
 use mathlib.Core.Path.{_≡_}
 use Prim.Native.Nat.{ℕ, _*_, _%_, _^_, _<_}
@@ -18,3 +19,8 @@ Repeats w value word = (i : ℕ) → i < 4 → getD (lows 4 word) i 0 ≡ getD (
 -- the first n words of four bytes are this word
 abbrev pub Words : List ℕ → ℕ → ℕ → Type 0
 Words filler word n = (i : ℕ) → i < n → le 4 filler (4 * i) ≡ word
+
+-- b says whether they are
+pub record Same (filler : List ℕ) (word n : ℕ) (b : Bool) : Type 0 where
+  pub holds : b ≡ true → Words filler word n
+  pub fails : b ≡ false → Words filler word n → ⊥

@@ -1,5 +1,6 @@
 // Brick kind and brick view, by entry number.
 use checks::check14_with;
+use cube::missing_brick;
 use endian::u32_at;
 use floats::integer_value;
 use floats::widen_bits;
@@ -7,26 +8,23 @@ use record::Coding;
 use record::Record;
 use record::Refusal;
 use record::Verdict;
-use record::brick_bytes_in;
 use record::coding_of;
 use record::refuse;
 use record::refuse_at;
-use record::width_of;
 use table::Kind;
 use table::kind_at;
-use table::lowest_out_of_range;
-ghost use mathlib.Core.Bool.{false};
+use table::out_of_range;
+use table::table_in;
 ghost use mathlib.Core.Path.{_≡_};
-ghost use Prim.Native.Nat.{_-_, _*_, _^_, _<_, _≤_};
+ghost use Prim.Native.Nat.{_*_, _^_, _<_, _≤_};
 ghost use lib.ListN.{length};
 ghost use Rattle.record.specs.Types.{widthOf, valueOf};
 ghost use Rattle.record.specs.declared.Verdict.the-variants.{Taken};
-ghost use Rattle.checks.specs.Fits.{breaks14};
-ghost use Rattle.table.specs.Windows.{Width, Decides};
+ghost use Rattle.table.specs.Entries.{Width, Derived};
 ghost use Rattle.table.specs.declared.Kind.the-variants.{Constant};
-ghost use Rattle.cube.specs.Places.{itemBytes, kindIn};
-ghost use Rattle.bricks.specs.Bricks.{brickOf, kindVerdict, kindAnswer, fillerVerdict, shownVerdict, viewVerdict, shownOf, viewOf};
-ghost use Rattle.bricks.specs.Filler.{Narrow, Repeats, Words};
+ghost use Rattle.cube.specs.Places.{itemBytes};
+ghost use Rattle.bricks.specs.Bricks.{brickOf, kindVerdict, kindAnswer, fillerVerdict, shownVerdict, viewVerdict, viewOf, Shows};
+ghost use Rattle.bricks.specs.Filler.{Narrow, Repeats, Same};
 
 // What a brick is. A constant is the storage value, unscaled; a stored brick has its offset in the file.
 pub enum Brick {
@@ -41,15 +39,7 @@ pub enum Found {
     Refused(Refusal),
 }
 
-// Where the brick table starts: it ends where the headers do.
-fn table_at(header: u64, bricks: u32) -> usize
-    requires { ⌜ 8 * bricks ≤ header ⌝ }
-    ensures { λ t. ⌜ t ≡ header - 8 * bricks ⌝ }
-{
-    header as usize - 8 * (bricks as usize)
-}
-
-// Checks 14, 16 and 12. The search for the lowest entry out of range is over a table of this one entry, and finds it or not.
+// Checks 14, 16 and 12.
 fn check_entry(file: &[u8], r: Record, entry: u32) -> Verdict
     ensures { λ v. ⌜ v ≡ kindVerdict r (now (file .entry)) entry ⌝ }
 {
@@ -59,24 +49,10 @@ fn check_entry(file: &[u8], r: Record, entry: u32) -> Verdict
     if r.bricks <= entry {
         return refuse(16);
     }
-    let d = r.description;
-    let header = r.header;
-    let place = table_at(header, r.bricks) + 8 * (entry as usize);
-    let outside = lowest_out_of_range(file, place, 1, header, brick_bytes_in(d));
-    if outside == 0 {
+    if out_of_range(file, table_in(r), entry as usize) {
         return refuse_at(12, entry);
     }
     Verdict::Taken
-}
-
-// What an entry names, once it has passed its checks.
-fn kind_in(file: &[u8], r: Record, entry: u32) -> Kind
-    requires { ⌜ kindVerdict r (now file) entry ≡ Taken ⌝ }
-    ensures { λ k. ⌜ k ≡ kindIn r (now (file .entry)) entry ⌝ }
-{
-    let d = r.description;
-    let table = table_at(r.header, r.bricks);
-    kind_at(file, table, entry as usize, width_of(d.datatype))
 }
 
 // The storage value of a constant as a float, unscaled.
@@ -112,7 +88,8 @@ pub fn brick_kind(file: &[u8], r: Record, entry: u32) -> Found
         Verdict::Refused(refusal) => Found::Refused(refusal),
         Verdict::Taken => {
             let d = r.description;
-            Found::Known(brick_of(d.datatype, kind_in(file, r, entry)))
+            let t = table_in(r);
+            Found::Known(brick_of(d.datatype, kind_at(file, t, entry as usize)))
         }
     }
 }
@@ -132,7 +109,7 @@ fn repeated(value: u32, width: u32) -> u32
 // No early exit: differences are gathered and tested once, which runs at memory speed.
 fn same_words(filler: &[u8], word: u32, count: usize) -> bool
     requires { ⌜ 4 * count ≤ length (now filler) ⌝ }
-    ensures { λ b. ⌜ Decides (Words (now (filler .entry)) word count) b ⌝ }
+    ensures { λ b. ⌜ Same (now (filler .entry)) word count b ⌝ }
 {
     let mut different: u32 = 0;
     let mut i = 0;
@@ -145,28 +122,31 @@ fn same_words(filler: &[u8], word: u32, count: usize) -> bool
 
 // Checks 18 and 17, for a brick whose every sample has this value. A brick is a whole number of words, since a side is.
 fn check_filler(filler: &[u8], r: Record, value: u32) -> Verdict
-    requires { ⌜ (breaks14 r ≡ false) × (value < 256 ^ itemBytes r) ⌝ }
+    requires { ⌜ Derived r × (value < 256 ^ itemBytes r) ⌝ }
     ensures { λ v. ⌜ v ≡ fillerVerdict r (Constant value) (now (filler .entry)) ⌝ }
 {
-    let d = r.description;
-    let bytes = brick_bytes_in(d) as usize;
+    let t = table_in(r);
+    let bytes = t.brick as usize;
     if filler.len() < bytes {
         return refuse(18);
     }
     let words = bytes / 4;
-    if same_words(filler, repeated(value, width_of(d.datatype)), words) {
+    if same_words(filler, repeated(value, t.width), words) {
         return Verdict::Taken;
     }
     refuse(17)
 }
 
-// A missing brick is shown as one of zeros.
+// A missing brick is shown as one of the value that it reads as.
 fn check_shown(filler: &[u8], r: Record, kind: Kind) -> Verdict
-    requires { ⌜ (breaks14 r ≡ false) × Narrow (itemBytes r) kind ⌝ }
+    requires { ⌜ Derived r × Narrow (itemBytes r) kind ⌝ }
     ensures { λ v. ⌜ v ≡ shownVerdict r kind (now (filler .entry)) ⌝ }
 {
     match kind {
-        Kind::Missing => check_filler(filler, r, 0),
+        Kind::Missing => {
+            let missing = missing_brick(r);
+            check_filler(filler, r, missing.value)
+        }
         Kind::Constant(value) => check_filler(filler, r, value),
         Kind::Stored(_) => Verdict::Taken,
     }
@@ -179,18 +159,21 @@ pub fn brick_view_verdict(file: &[u8], filler: &[u8], r: Record, entry: u32) -> 
     let verdict = check_entry(file, r, entry);
     match verdict {
         Verdict::Refused(_) => verdict,
-        Verdict::Taken => check_shown(filler, r, kind_in(file, r, entry)),
+        Verdict::Taken => {
+            let t = table_in(r);
+            check_shown(filler, r, kind_at(file, t, entry as usize))
+        }
     }
 }
 
 // The brick's part of the file where it is stored, else the start of the filler.
 fn shown<'a>(file: &'a [u8], filler: &'a [u8], r: Record, entry: u32) -> &'a [u8]
     requires { ⌜ viewVerdict r (now file) (now filler) entry ≡ Taken ⌝ }
-    ensures { λ s. ⌜ now s ≡ shownOf r (kindIn r (now (file .entry)) entry) (now (file .entry)) (now (filler .entry)) ⌝ }
+    ensures { λ s. ⌜ Shows (viewOf r (now (file .entry)) (now (filler .entry)) entry) (file .entry) (filler .entry) s ⌝ }
 {
-    let d = r.description;
-    let bytes = brick_bytes_in(d) as usize;
-    let kind = kind_in(file, r, entry);
+    let t = table_in(r);
+    let bytes = t.brick as usize;
+    let kind = kind_at(file, t, entry as usize);
     match kind {
         Kind::Missing => &filler[0..bytes],
         Kind::Constant(_) => &filler[0..bytes],
@@ -204,7 +187,7 @@ fn shown<'a>(file: &'a [u8], filler: &'a [u8], r: Record, entry: u32) -> &'a [u8
 
 // The bytes of an entry's brick, lent on: a part of the file, or the start of the filler. A refusal is an empty part of the file.
 pub fn brick_view<'a>(file: &'a [u8], filler: &'a [u8], r: Record, entry: u32) -> &'a [u8]
-    ensures { λ s. ⌜ now s ≡ viewOf r (now (file .entry)) (now (filler .entry)) entry ⌝ }
+    ensures { λ s. ⌜ Shows (viewOf r (now (file .entry)) (now (filler .entry)) entry) (file .entry) (filler .entry) s ⌝ }
 {
     let verdict = brick_view_verdict(file, filler, r, entry);
     match verdict {

@@ -10,15 +10,12 @@ use lib.Ieee.{binary32, ofBits}
 use borrow.Author.Tests.{eqb-true, eq-eqb, leb-true, le-leb}
 use Rattle.floats.specs.Rules.{finiteBits, rangeOk, sameBits}
 use Rattle.floats.proofs.Patterns.{same-of, same-zero, range-finite}
-use Rattle.record.specs.Answers.{isTaken}
 use Rattle.record.specs.Record.{boundOf, floatsOf, gridOf, headerOf, levelsOf, bricksOf, alphasOf, recordOf}
 use Rattle.record.specs.declared.Description.{Description}
 use Rattle.record.specs.declared.Record.{Record}
-use Rattle.record.specs.declared.Verdict.{Verdict}
-use Rattle.record.specs.declared.Verdict.the-variants.{Taken, Refused}
 use Rattle.checks.specs.Checks.{all3, breaks3, breaks7}
 use Rattle.checks.specs.Fits.{same3, gridFits, numbersFit, recordFits, breaks14, breaks14With}
-use Rattle.checks.proofs.Described.{both, either, not-false, all3-each, Described, described-all, described-is}
+use Rattle.checks.proofs.Described.{taken-is, both, either, not-false, all3-each, Described, described-all, described-is}
 
 -- a record that passes check 14
 pub record Fit (r : Record) : Type 0 where
@@ -34,10 +31,6 @@ pub record Fit (r : Record) : Type 0 where
 not-true : (b : Bool) → not b ≡ true → b ≡ false
 not-true true e = absurd (false≢true e)
 not-true false e = refl
-
-taken-is : (v : Verdict) → isTaken v ≡ true → v ≡ Taken
-taken-is Taken e = refl
-taken-is (Refused x) e = absurd (false≢true e)
 
 pub fits-all : (r : Record) → recordFits r ≡ true → Fit r
 unfolding recordFits numbersFit

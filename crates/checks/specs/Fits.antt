@@ -1,4 +1,4 @@
--- Check 14: a record that breaks 3 to 9 or its derived numbers, whose file length is below the headers' end, or with which a file of another length is lent.
+-- Check 14 (FORMAT 10.3): a record that breaks 3 to 9 or its derived numbers, whose file length is below the headers' end, or with which a file of another length is lent.
 use mathlib.Core.Bool.{Bool, not, _&&_}
 use mathlib.Core.List.{List}
 use Prim.Native.Nat.{ℕ}
@@ -25,7 +25,7 @@ gridFits d g =
     && sameBits (g .min) (boundOf (d .datatype) (getD (d .range) 0 0))
     && sameBits (g .max) (boundOf (d .datatype) (getD (d .range) 1 0))
 
--- header end, levels, bricks and alpha tiles are those that follow from the description and the text length
+-- header end, levels, bricks and alpha tiles are those that follow from the description and the text length, and the file has all headers
 unfoldable pub numbersFit : Record → Bool
 numbersFit r =
     eqb (r .header) (headerOf (r .description) (r .text))

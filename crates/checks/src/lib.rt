@@ -1,9 +1,15 @@
-// Checks 2 to 9, 11 and 14 of the build paper's table. A test joins its parts by `|` and `&`, plain operations on bools, so
+// Checks 2 to 9, 11 and 14 of FORMAT 9.2. A test joins its parts by `|` and `&`, plain operations on bools, so
 // that it is its definition as it stands.
 use floats::finite_bits;
 use floats::range_ok;
 use floats::same_bits;
+use geometry::BRICK_LIMIT;
+use geometry::LEAST_EXPONENT;
+use geometry::LONGEST_TEXT;
+use geometry::SHORTEST_TEXT;
+use geometry::SIZE_LIMIT;
 use geometry::header_end;
+use geometry::power_in;
 use record::Coding;
 use record::Description;
 use record::Grid;
@@ -17,14 +23,12 @@ ghost use mathlib.Core.Path.{_≡_};
 ghost use mathlib.Core.Bool.{Bool, not, _&&_};
 ghost use Prim.Native.Nat.{_≤_, _<_};
 ghost use lib.ListN.{length};
+ghost use Rattle.geometry.specs.Limits.{longestText};
 ghost use Rattle.floats.specs.Rules.{finiteBits};
 ghost use Rattle.record.specs.Record.{Sized};
 ghost use Rattle.record.specs.declared.Verdict.the-variants.{Taken};
-ghost use Rattle.checks.specs.Checks.{all3, sideOk, sizeOk, breaks2, breaks3, breaks4, breaks5, breaks6, breaks7, breaks8, breaks9, breaks11, zeros, fieldsFit, described};
+ghost use Rattle.checks.specs.Checks.{all3, sideOk, sizeOk, breaks2, breaks3, breaks4, verdict5, breaks6, breaks7, breaks8, breaks9, breaks11, zeros, fieldsFit, described};
 ghost use Rattle.checks.specs.Fits.{same3, gridFits, numbersFit, recordFits, breaks14, breaks14With};
-
-// The most bricks that all levels may have.
-const BRICK_LIMIT: u64 = 16384;
 
 pub fn check2(file: &[u8]) -> bool
     requires { ⌜ 4 ≤ length (now file) ⌝ }
@@ -42,7 +46,7 @@ pub fn check3(version: u32) -> bool
 fn side_ok(n: u32) -> bool
     ensures { λ r. ⌜ r ≡ sideOk n ⌝ }
 {
-    (n == 4) | (n == 8) | (n == 16) | (n == 32) | (n == 64)
+    power_in(LEAST_EXPONENT, n)
 }
 
 fn check4(d: Description) -> bool
@@ -52,21 +56,22 @@ fn check4(d: Description) -> bool
     !(side_ok(side[0]) & side_ok(side[1]) & side_ok(side[2]))
 }
 
-fn check5(d: Description) -> bool
-    ensures { λ r. ⌜ r ≡ breaks5 d ⌝ }
+// Check 5: the refusal is the one that the type number gives.
+fn check5(d: Description) -> Verdict
+    ensures { λ r. ⌜ r ≡ verdict5 d ⌝ }
 {
     let coding = coding_of(d.datatype);
     match coding {
-        Coding::NoType(_) => true,
-        Coding::Scaled { width: _, half: _ } => false,
-        Coding::Float32 { width: _ } => false,
+        Coding::NoType(refusal) => Verdict::Refused(refusal),
+        Coding::Scaled { width: _, half: _ } => Verdict::Taken,
+        Coding::Float32 { width: _ } => Verdict::Taken,
     }
 }
 
 fn size_ok(n: u32) -> bool
     ensures { λ r. ⌜ r ≡ sizeOk n ⌝ }
 {
-    (1 <= n) & (n <= 1048576)
+    (1 <= n) & (n <= SIZE_LIMIT)
 }
 
 fn check6(d: Description) -> bool
@@ -102,7 +107,7 @@ fn check8(d: Description) -> bool
 fn check9(text: u32) -> bool
     ensures { λ r. ⌜ r ≡ breaks9 text ⌝ }
 {
-    !((5 <= text) & (text <= 65536))
+    !((SHORTEST_TEXT <= text) & (text <= LONGEST_TEXT))
 }
 
 // Checks 4 to 9 of a description and the length of a text.
@@ -112,8 +117,9 @@ pub fn check_description(d: Description, text: u32) -> Verdict
     if check4(d) {
         return refuse(4);
     }
-    if check5(d) {
-        return refuse(5);
+    let typed = check5(d);
+    if let Verdict::Refused(refusal) = typed {
+        return Verdict::Refused(refusal);
     }
     if check6(d) {
         return refuse(6);
@@ -183,12 +189,16 @@ fn wide(x: u32) -> u64
 fn fields_fit(d: Description) -> bool
     ensures { λ b. ⌜ b ≡ fieldsFit d ⌝ }
 {
-    !(check4(d) | check5(d) | check6(d) | check7(d))
+    let typed = check5(d);
+    match typed {
+        Verdict::Taken => !(check4(d) | check6(d) | check7(d)),
+        Verdict::Refused(_) => false,
+    }
 }
 
 // Check 8, and the numbers that follow from the description. The levels are counted once for both.
 fn numbers_fit(r: Record) -> bool
-    requires { ⌜ Sized (r .description) × (r .text ≤ 65536) ⌝ }
+    requires { ⌜ Sized (r .description) × (r .text ≤ longestText) ⌝ }
     ensures { λ b. ⌜ b ≡ not (breaks8 (r .description)) && numbersFit r ⌝ }
 {
     let d = r.description;

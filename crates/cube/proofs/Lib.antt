@@ -1,10 +1,9 @@
 -- Laws of sample places, regions and writes, for the code that moves them and for the promises about whole lists of calls.
-pub mod Find
 pub mod Valid
 pub mod Places
 pub mod Regions
 pub mod Writes
+pub mod Written
 pub mod Rows
-pub mod Verdicts
-pub mod Lowest
 pub mod Runs
+pub mod Calls

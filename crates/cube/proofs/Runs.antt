@@ -5,10 +5,9 @@ use mathlib.Core.Path.{_≡_, sym, ap, _∙_}
 use mathlib.Core.List.{List, [], _∷_, _++_}
 use native.Mathlib.Omega.{arith}
 use native.Mathlib.Nat.{zero-mul, suc-mul, add-zero, add-assoc, add-mul, div-add-mod'}
-use lib.ListN.{length, take, drop, replicate, take-append-drop, replicate-append-replicate}
+use lib.ListN.{length, take, drop, take-append-drop}
 use lib.Seq.{take-add, drop-drop}
 use lib.Arith.{digits-div, digits-mod}
-use lib.Ieee.{binary64, ofBits}
 use Rattle.endian.specs.Loops.{cat, up}
 use Rattle.endian.specs.Bytes.{peek, put, le, lows}
 use Rattle.endian.proofs.Bytes.{le-peek, le-lows}
@@ -18,8 +17,9 @@ use Rattle.record.specs.declared.Record.{Record}
 use Rattle.table.specs.declared.Kind.{Kind}
 use Rattle.table.specs.declared.Kind.the-variants.{Missing, Constant, Stored}
 use Rattle.cube.specs.declared.Region.{Region}
-use Rattle.cube.specs.Places.{Place, Row, itemBytes, kindIn, brickOf, itemNo, byteOf, rowIn, rowsOf, rawOf, floatOf}
-use Rattle.cube.specs.Regions.{startOf, place, chunk, offsetIn, store}
+use Rattle.cube.specs.Places.{Place, Row, itemBytes, kindIn, brickOf, itemNo, byteOf, rowIn, rowsOf, missingBrick, rawOf, floatOf}
+use Rattle.table.specs.Entries.{offsetIn}
+use Rattle.cube.specs.Regions.{startOf, place, chunk, placeByte, store}
 use Rattle.endian.proofs.Cats.{cat-same, cat-peek}
 use Rattle.endian.proofs.Puts.{length-peek, put-put}
 use Rattle.cube.proofs.Valid.{headers, entries}
@@ -45,11 +45,6 @@ module _ (r : Record) (g : Region) (i j k m : ℕ) (one-brick : (startOf g 2 + k
 
 -- ---- m samples from place g i j k on, all in one brick, read one by one
 
-cat-zeros : (m w : ℕ) → cat m (λ n. replicate {A = ℕ} w 0) ≡ replicate (m * w) 0
-unfolding cat
-cat-zeros zero w = rw zero-mul
-cat-zeros (suc m) w = rw (suc-mul m w) (ap (λ (x : List ℕ). x ++ replicate w 0) (cat-zeros m w) ∙ replicate-append-replicate (m * w) w 0)
-
 module _ (r : Record) (f : List ℕ) (g : Region) (i j k m : ℕ) (fits : (startOf g 2 + k) % sideOf (r .description) 2 + m ≤ sideOf (r .description) 2) where
   -- whatever a row is read as
   run-any : {A : Type 0} (κ : Kind) → kindIn r f (brickOf r (place g i j k)) ≡ κ → (read : Row → List A)
@@ -57,10 +52,10 @@ module _ (r : Record) (f : List ℕ) (g : Region) (i j k m : ℕ) (fits : (start
   run-any κ e read =
       cat-same m _ _ (λ n l. ap read (run-row r g i j k n (omega arith) f ∙ ap (λ (x : Kind). rowIn r x f (place g i j (k + n))) e))
 
-  -- as bytes: zeros of a missing brick, the value of a constant one again and again, one part of the file of a stored one
-  pub run-missing : kindIn r f (brickOf r (place g i j k)) ≡ Missing → cat m (λ n. rawOf r (rowsOf r f (place g i j (k + n)))) ≡ replicate (m * itemBytes r) 0
+  -- as bytes: the value of a missing or a constant brick again and again, one part of the file of a stored one
+  pub run-missing : kindIn r f (brickOf r (place g i j k)) ≡ Missing → cat m (λ n. rawOf r (rowsOf r f (place g i j (k + n)))) ≡ cat m (λ n. lows (itemBytes r) (missingBrick r .value))
   unfolding rawOf
-  run-missing e = run-any Missing e (rawOf r) ∙ cat-zeros m (itemBytes r)
+  run-missing e = run-any Missing e (rawOf r)
 
   pub run-constant : (v : ℕ) → kindIn r f (brickOf r (place g i j k)) ≡ Constant v → cat m (λ n. rawOf r (rowsOf r f (place g i j (k + n)))) ≡ cat m (λ n. lows (itemBytes r) v)
   unfolding rawOf
@@ -74,7 +69,7 @@ module _ (r : Record) (f : List ℕ) (g : Region) (i j k m : ℕ) (fits : (start
       ∙ cat-peek f (byteOf r o (place g i j k)) (itemBytes r) m
 
   -- as floats
-  pub float-missing : kindIn r f (brickOf r (place g i j k)) ≡ Missing → cat m (λ n. floatOf r (rowsOf r f (place g i j (k + n))) ∷ []) ≡ cat m (λ n. ofBits binary64 0 ∷ [])
+  pub float-missing : kindIn r f (brickOf r (place g i j k)) ≡ Missing → cat m (λ n. floatOf r (rowsOf r f (place g i j (k + n))) ∷ []) ≡ cat m (λ n. missingBrick r .float ∷ [])
   unfolding floatOf
   float-missing e = run-any Missing e (λ x. floatOf r x ∷ [])
 
@@ -102,7 +97,7 @@ module _ (r : Record) (f : List ℕ) (g : Region) (i j k o : ℕ) (at : kindIn r
   pub run-write : (m : ℕ) → (startOf g 2 + k) % sideOf (r .description) 2 + m ≤ sideOf (r .description) 2
       → byteOf r o (place g i j k) + m * itemBytes r ≤ length f → (t + m) * itemBytes r ≤ length d
       → up m (λ n h. store r h (place g i j (k + n)) (chunk (itemBytes r) d (t + n))) f ≡ put f (byteOf r o (place g i j k)) (peek d (t * itemBytes r) (m * itemBytes r))
-  unfolding up store
+  unfolding up store placeByte
   run-write zero fits high room = rw (zero-mul, add-zero) (sym (take-append-drop (byteOf r o (place g i j k)) f))
   run-write (suc m) fits high room =
       let w : ℕ = itemBytes r in
@@ -116,7 +111,7 @@ module _ (r : Record) (f : List ℕ) (g : Region) (i j k o : ℕ) (at : kindIn r
       let here : kindIn r (put f a x) (brickOf r q) ≡ Stored o =
       ap (kindIn r (put f a x)) (run-brick r g i j k m (omega arith)) ∙ kept-kind r f (put f a x) (put-kept r f a x low (omega arith)) (brickOf r (place g i j k)) known ∙ at in
       ap (λ (h : List ℕ). store r h q (chunk w d (t + m))) (run-write m (omega arith) (omega arith) (omega (arith, add-mul t m w)))
-      ∙ ap (λ (κ : Kind). put (put f a x) (byteOf r (offsetIn r κ) q) (chunk w d (t + m))) here
+      ∙ ap (λ (κ : Kind). put (put f a x) (byteOf r (offsetIn κ) q) (chunk w d (t + m))) here
       ∙ ap (λ (n : ℕ). put (put f a x) n (chunk w d (t + m))) (run-item r g i j k m (omega arith) o ∙ ap (λ (n : ℕ). a + n) (sym lx))
       ∙ put-put f a x (chunk w d (t + m)) (omega arith)
       ∙ ap (put f a)

@@ -1,6 +1,7 @@
 -- What holds of a lent cube that opening took, as facts; every law of places, rows and writes goes by these alone. Assumes nothing.
 use Prim.Native.Nat.{ℕ, _+_, _≤_, _<_}
 use mathlib.Core.Path.{_≡_, refl}
+use mathlib.Core.Bool.{false}
 use mathlib.Core.Logic.{_≢_, _⊎_, inl, inr, ⊎-elim}
 use mathlib.Core.List.{List}
 use native.Mathlib.Omega.{arith}
@@ -11,11 +12,9 @@ use Rattle.record.specs.Record.{bricksOf, brickBytesOf, headerOf, recordOf}
 use Rattle.record.specs.declared.Record.{Record}
 use Rattle.record.specs.declared.Verdict.the-variants.{Taken}
 use Rattle.checks.proofs.Records.{Fit, record-fits}
-use Rattle.table.specs.declared.Kind.{Kind}
 use Rattle.table.specs.declared.Kind.the-variants.{Stored}
-use Rattle.table.specs.Entries.{lowestOverlap}
-use Rattle.table.proofs.Range.{range-none}
-use Rattle.table.proofs.Overlaps.{overlap-none}
+use Rattle.table.specs.Entries.{breaks13}
+use Rattle.table.proofs.Tables.{stored-inside, stored-apart}
 use Rattle.opening.specs.Opening.{openVerdict, recordIn}
 use Rattle.opening.proofs.Rules.{opened-passed, words}
 use Rattle.cube.specs.Places.{kindIn}
@@ -43,29 +42,25 @@ pub record Valid (r : Record) (f : List ℕ) : Type 0 where
   pub apart : (e e′ o o′ : ℕ) → e < entries r → e′ < entries r → e ≢ e′ → kindIn r f e ≡ Stored o → kindIn r f e′ ≡ Stored o′
       → (o + brickLength r ≤ o′) ⊎ (o′ + brickLength r ≤ o)
 
--- the headers are in the file
-pub headers-in : (r : Record) (f : List ℕ) → Lent r f → headers r ≤ length f
-headers-in r f l = omega (arith, l .fit .header-is, l .fit .long, l .same-length)
-
 -- ---- from opening
 
 -- what check 13 leaves of m entries, whichever of two is the lower
-ordered : (b : ℕ) (kinds : ℕ → Kind) (m : ℕ) → lowestOverlap b kinds m ≡ m → (e e′ o o′ : ℕ) → e < m → e′ < m → e ≢ e′ → kinds e ≡ Stored o → kinds e′ ≡ Stored o′
-    → (o + b ≤ o′) ⊎ (o′ + b ≤ o)
-ordered b kinds m q e e′ o o′ l l′ ne s s′ = go (decLt e e′)
+ordered : (r : Record) (f : List ℕ) (m : ℕ) → ((e : ℕ) → e < m → breaks13 r f e ≡ false) → (e e′ o o′ : ℕ) → e < m → e′ < m → e ≢ e′
+    → kindIn r f e ≡ Stored o → kindIn r f e′ ≡ Stored o′ → (o + brickLength r ≤ o′) ⊎ (o′ + brickLength r ≤ o)
+ordered r f m q e e′ o o′ l l′ ne s s′ = go (decLt e e′)
   where
-    go : Dec (e < e′) → (o + b ≤ o′) ⊎ (o′ + b ≤ o)
-    go (yes k) = overlap-none b kinds m q e e′ k l′ o o′ s s′
-    go (no k) = ⊎-elim inr inl (overlap-none b kinds m q e′ e (omega arith) l o′ o s′ s)
+    go : Dec (e < e′) → (o + brickLength r ≤ o′) ⊎ (o′ + brickLength r ≤ o)
+    go (yes k) = stored-apart r f e′ (q e′ l′) e o o′ k s s′
+    go (no k) = ⊎-elim inr inl (stored-apart r f e (q e l) e′ o′ o (omega arith) s′ s)
 
 -- a cube that opening took is valid with its record
 pub valid : (f : List ℕ) → Bytes f → openVerdict f ≡ Taken → Valid (recordIn f) f
-unfolding recordIn recordOf kindIn
+unfolding recordIn recordOf
 valid f h e =
     let p = opened-passed f e in
     record {
       lent = record { fit = record-fits _ _ _ _ (p .header .not3) (p .header .is-described) (words f h) (p .long); same-length = refl };
-      low = λ e o l s. range-none _ _ _ _ _ (p .not12) e l o s .0;
-      high = λ e o l s. range-none _ _ _ _ _ (p .not12) e l o s .1;
-      apart = ordered _ _ _ (p .not13);
+      low = λ e o l s. stored-inside (recordIn f) f e (p .not12 e l) o s .0;
+      high = λ e o l s. stored-inside (recordIn f) f e (p .not12 e l) o s .1;
+      apart = ordered (recordIn f) f _ (p .not13);
     }

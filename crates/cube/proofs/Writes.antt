@@ -1,34 +1,35 @@
 -- What a write of a region leaves: each place of the region has the bytes lent for it, every other place, and every header byte, what it had.
 -- Assumes nothing.
-use Prim.Native.Nat.{ℕ, suc, _+_, _-_, _*_, _≤_, _<_}
+use Prim.Native.Nat.{ℕ, suc, _+_, _-_, _*_, _/_, _%_, _≤_, _<_}
 use mathlib.Core.Path.{_≡_, refl, sym, ap, _∙_}
 use mathlib.Core.Logic.{_≢_, inl, inr}
 use mathlib.Core.Bool.{Bool, true, false, _&&_, cond}
 use mathlib.Core.List.{List}
 use native.Mathlib.Omega.{arith}
 use native.Mathlib.Decide.{decLt}
-use native.Mathlib.Nat.{add-zero, zero-mul, add-sub-cancel-left, le-trans, le-refl}
+use native.Mathlib.Nat.{add-sub-cancel-left, le-trans, le-refl, div-add-mod'}
 use lib.ListN.{length, take}
 use lib.Dec.{eqb, leb, ltb}
 use borrow.Author.Tests.{ltb-true, leb-true, eqb-true, lt-ltb, le-ltb, le-leb, eq-eqb}
 use Rattle.endian.specs.Loops.{tri}
 use Rattle.endian.specs.Bytes.{peek, put}
-use Rattle.endian.proofs.Digits.{tri-inj, tri-lt, tri-suc, tri-carry, tri-carry-2, next-item}
+use Rattle.endian.proofs.Digits.{tri-inj, tri-lt, next-item}
 use Rattle.record.specs.Record.{headerOf, tableOf}
 use Rattle.record.specs.declared.Record.{Record}
 use Rattle.checks.proofs.Described.{both}
 use Rattle.checks.proofs.Records.{Fit}
 use Rattle.table.specs.declared.Kind.{Kind}
 use Rattle.table.specs.declared.Kind.the-variants.{Missing, Constant, Stored}
-use Rattle.table.proofs.Words.{kind-same}
+use Rattle.table.proofs.Tables.{names-same}
 use Rattle.cube.specs.declared.Region.{Region}
 use Rattle.cube.specs.Places.{Place, Row, bytes, itemBytes, kindIn, brickOf, byteOf, rowIn, rowsOf, Inside}
-use Rattle.cube.specs.Regions.{startOf, runOf, place, sizeOf, between, has, index, chunk, offsetIn, store, written}
+use Rattle.table.specs.Entries.{offsetIn}
+use Rattle.cube.specs.Regions.{startOf, runOf, place, sizeOf, placeAt, between, has, index, chunk, placeByte, store, written}
 use Rattle.endian.proofs.Cats.{up-rule}
 use Rattle.endian.proofs.Puts.{put-length, peek-put-same, take-put, peek-put-before, peek-put-after, front-byte, length-peek}
 use Rattle.cube.proofs.Valid.{headers, entries, Lent, Valid}
 use Rattle.cube.proofs.Places.{Apart, place-path, place-dec, byte-above, item-fits, brick-lt, places-apart}
-use Rattle.cube.proofs.Regions.{Held, Covered}
+use Rattle.cube.proofs.Regions.{digits-in, Held, Covered}
 
 -- ---- the places of a region
 
@@ -42,7 +43,7 @@ record In (g : Region) (p : Place) : Type 0 where
   from2 : startOf g 2 ≤ p .k
   to2 : p .k < startOf g 2 + runOf g 2
 
-between-true : (a c x : ℕ) → between a c x ≡ true → (a ≤ x) × (x < a + c)
+pub between-true : (a c x : ℕ) → between a c x ≡ true → (a ≤ x) × (x < a + c)
 between-true a c x e =
     let h = both (leb a x) (ltb x (a + c)) e in
     (leb-true a x (h .0), ltb-true x (a + c) (h .1))
@@ -81,11 +82,23 @@ module _ (g : Region) where
   index-lt p h = tri-lt (runOf g 0) (runOf g 1) (runOf g 2) (p .i - startOf g 0) (p .j - startOf g 1) (p .k - startOf g 2) (omega arith) (omega arith) (omega arith)
 
   -- a region's places are told apart by their index
-  index-inj : (p : Place) (i j k : ℕ) → In g p → j < runOf g 1 → k < runOf g 2 → index g p ≡ tri (runOf g 1) (runOf g 2) i j k → p ≡ place g i j k
+  index-inj : (p : Place) (t : ℕ) → In g p → t < sizeOf g → index g p ≡ t → p ≡ placeAt g t
   unfolding index
-  index-inj p i j k h hj hk e =
-      let t = tri-inj (runOf g 1) (runOf g 2) (p .i - startOf g 0) (p .j - startOf g 1) (p .k - startOf g 2) i j k (omega arith) hj (omega arith) hk e in
+  index-inj p t h l e =
+      let n1 : ℕ = runOf g 1 in
+      let n2 : ℕ = runOf g 2 in
+      let d = digits-in g t l in
+      let back : tri n1 n2 (t / n2 / n1) (t / n2 % n1) (t % n2) ≡ t = rw (div-add-mod' (t / n2) n1, div-add-mod' t n2) in
+      let u = tri-inj n1 n2 (p .i - startOf g 0) (p .j - startOf g 1) (p .k - startOf g 2) (t / n2 / n1) (t / n2 % n1) (t % n2)
+      (omega arith) (d .1) (omega arith) (d .2) (e ∙ sym back) in
       place-path (sym (h .level)) (omega arith) (omega arith) (omega arith)
+
+  -- the t-th place is one of them, with the index t
+  pub has-at : (t : ℕ) → t < sizeOf g → has g (placeAt g t) ≡ true
+  has-at t l = let d = digits-in g t l in has-place _ _ _ (d .0) (d .1) (d .2)
+
+  pub index-at : (t : ℕ) → index g (placeAt g t) ≡ t
+  index-at t = index-place _ _ _ ∙ rw (div-add-mod' (t / runOf g 2) (runOf g 1), div-add-mod' t (runOf g 2))
 
 ltb-step : (x t : ℕ) → x ≢ t → ltb x (suc t) ≡ ltb x t
 ltb-step x t n = go (decLt x t)
@@ -115,8 +128,8 @@ module _ (r : Record) where
   module _ (f h : List ℕ) (κ : Kept f h) where
     -- and so every entry
     pub kept-kind : (e : ℕ) → e < entries r → kindIn r h e ≡ kindIn r f e
-    unfolding kindIn headerOf tableOf
-    kept-kind e l = kind-same (itemBytes r) h f (tableOf (r .description) (r .text)) e (λ i a b. front-byte h f (headers r) i (κ .same-header) (omega arith))
+    unfolding headerOf tableOf
+    kept-kind e l = names-same r h e f (λ i a b. front-byte h f (headers r) i (κ .same-header) (omega arith))
 
     pub kept-lent : Lent r f → Lent r h
     kept-lent l = record { fit = l .fit; same-length = l .same-length ∙ sym (κ .same-length) }
@@ -144,8 +157,8 @@ module _ (r : Record) where
 
   module _ (ok : Fit r) (f : List ℕ) (q : Place) (at : Held r f q) (b : List ℕ) (full : length b ≡ itemBytes r) where
     pub store-at : store r f q b ≡ put f (byteOf r (at .offset) q) b
-    unfolding store
-    store-at = ap (λ (κ : Kind). put f (byteOf r (offsetIn r κ) q) b) (at .at-offset)
+    unfolding store placeByte
+    store-at = ap (λ (κ : Kind). put f (byteOf r (offsetIn κ) q) b) (at .at-offset)
 
     fits : byteOf r (at .offset) q + length b ≤ length f
     fits = omega (arith, item-fits r ok (at .offset) q, at .high)
@@ -185,33 +198,32 @@ module _ (r : Record) where
   -- ---- a region
 
   -- a chunk of the lent bytes is an item
-  pub chunk-full : (g : Region) (d : List ℕ) → sizeOf g * itemBytes r ≤ length d
-      → (i j k : ℕ) → i < runOf g 0 → j < runOf g 1 → k < runOf g 2 → length (chunk (itemBytes r) d (tri (runOf g 1) (runOf g 2) i j k)) ≡ itemBytes r
-  chunk-full g d room i j k hi hj hk =
-      let t : ℕ = tri (runOf g 1) (runOf g 2) i j k in
-      length-peek d (t * itemBytes r) (itemBytes r) (le-trans (next-item (itemBytes r) t (sizeOf g) (tri-lt (runOf g 0) (runOf g 1) (runOf g 2) i j k hi hj hk)) room)
+  pub chunk-full : (g : Region) (d : List ℕ) → sizeOf g * itemBytes r ≤ length d → (t : ℕ) → t < sizeOf g → length (chunk (itemBytes r) d t) ≡ itemBytes r
+  chunk-full g d room t l = length-peek d (t * itemBytes r) (itemBytes r) (le-trans (next-item (itemBytes r) t (sizeOf g) l) room)
 
-  -- the rule of a region's write: what each store keeps, the write keeps
-  pub written-rule : (g : Region) (d f : List ℕ) (P : List ℕ → Type 0) → P f
-      → ((i j k : ℕ) (h : List ℕ) → i < runOf g 0 → j < runOf g 1 → k < runOf g 2 → P h → P (store r h (place g i j k) (chunk (itemBytes r) d (tri (runOf g 1) (runOf g 2) i j k))))
-      → P (written r g d f)
+  -- the rule of a region's write: what holds of the first t places' bytes holds of one place more
+  pub written-rule : (g : Region) (d f : List ℕ) (P : ℕ → List ℕ → Type 0) → P 0 f
+      → ((t : ℕ) (h : List ℕ) → t < sizeOf g → P t h → P (suc t) (store r h (placeAt g t) (chunk (itemBytes r) d t))) → P (sizeOf g) (written r g d f)
   unfolding written
-  written-rule g d f P z step =
-      up-rule (λ i. P) (runOf g 0) _ f z
-      (λ i h hi H. up-rule (λ j. P) (runOf g 1) _ h H (λ j h′ hj H′. up-rule (λ k. P) (runOf g 2) _ h′ H′ (λ k h″ hk H″. step i j k h″ hi hj hk H″)))
+  written-rule g d f P z step = up-rule P (sizeOf g) _ f z step
 
   module _ (ok : Fit r) (f : List ℕ) (g : Region) (d : List ℕ) (room : sizeOf g * itemBytes r ≤ length d) (cov : Covered r f g) where
+    -- the t-th place, in a file with the headers of f
+    pub held-at : (h : List ℕ) → Kept f h → (t : ℕ) → t < sizeOf g → Held r h (placeAt g t)
+    held-at h K t l = let x = digits-in g t l in kept-held f h K ok (placeAt g t) (cov _ _ _ (x .0) (x .1) (x .2))
+
     -- each store of the write keeps the headers
-    pub step-kept : (i j k : ℕ) (h : List ℕ) → i < runOf g 0 → j < runOf g 1 → k < runOf g 2 → Kept f h → Kept f (store r h (place g i j k) (chunk (itemBytes r) d (tri (runOf g 1) (runOf g 2) i j k)))
-    step-kept i j k h hi hj hk K =
-        kept-trans f h _ K
-        (store-kept ok h (place g i j k) (kept-held f h K ok (place g i j k) (cov i j k hi hj hk)) _ (chunk-full g d room i j k hi hj hk))
+    pub step-kept : (t : ℕ) (h : List ℕ) → t < sizeOf g → Kept f h → Kept f (store r h (placeAt g t) (chunk (itemBytes r) d t))
+    step-kept t h l K = kept-trans f h _ K (store-kept ok h (placeAt g t) (held-at h K t l) _ (chunk-full g d room t l))
 
     -- and so does the write
     pub written-kept : Kept f (written r g d f)
-    written-kept = written-rule g d f (Kept f) (kept-refl f) step-kept
+    written-kept = written-rule g d f (λ t. Kept f) (kept-refl f) step-kept
 
   module _ (f : List ℕ) (v : Valid r f) (g : Region) (d : List ℕ) (room : sizeOf g * itemBytes r ≤ length d) (cov : Covered r f g) where
+    ok : Fit r
+    ok = v .lent .fit
+
     -- the row of p, once the places with an index below t are written
     upto : ℕ → Place → Row
     upto t p = cond (has g p && ltb (index g p) t) (bytes (chunk (itemBytes r) d (index g p))) (rowsOf r f p)
@@ -228,62 +240,37 @@ module _ (r : Record) where
         go p false = refl
         go p true = rw (le-ltb (index g p) 0 (omega arith))
 
-    module _ (i j k : ℕ) (hi : i < runOf g 0) (hj : j < runOf g 1) (hk : k < runOf g 2) where
-      q : Place
-      q = place g i j k
+    module _ (t : ℕ) (l : t < sizeOf g) where
+      upto-same : upto (suc t) (placeAt g t) ≡ bytes (chunk (itemBytes r) d t)
+      unfolding upto
+      upto-same = rw (has-at g t l, index-at g t, lt-ltb t (suc t) (le-refl (suc t)))
 
-      t : ℕ
-      t = tri (runOf g 1) (runOf g 2) i j k
-
-      upto-same : upto (suc t) q ≡ bytes (chunk (itemBytes r) d t)
-      unfolding upto q t
-      upto-same = rw (has-place g i j k hi hj hk, index-place g i j k, lt-ltb t (suc t) (le-refl (suc t)))
-
-      upto-other : (p : Place) → p ≢ q → upto (suc t) p ≡ upto t p
-      unfolding upto q t
+      upto-other : (p : Place) → p ≢ placeAt g t → upto (suc t) p ≡ upto t p
+      unfolding upto
       upto-other p ne = go (has g p) refl
         where
           go : (b : Bool) → has g p ≡ b
               → cond (b && ltb (index g p) (suc t)) (bytes (chunk (itemBytes r) d (index g p))) (rowsOf r f p)
               ≡ cond (b && ltb (index g p) t) (bytes (chunk (itemBytes r) d (index g p))) (rowsOf r f p)
           go false e = refl
-          go true e = rw (ltb-step (index g p) t (λ s. ne (index-inj g p i j k (has-true g p e) hj hk s)))
+          go true e = rw (ltb-step (index g p) t (λ s. ne (index-inj g p t (has-true g p e) l s)))
 
-      advance : (h : List ℕ) → Holds t h → Holds (tri (runOf g 1) (runOf g 2) i j (suc k)) (store r h q (chunk (itemBytes r) d t))
-      unfolding q t
-      advance h H =
-          rw (tri-suc (runOf g 1) (runOf g 2) i j k)
-          (record {
-            kept = step-kept ok f g d room cov i j k h hi hj hk (H .kept);
-            rows = λ p hp. go p hp (place-dec p q);
-          })
+      advance : (h : List ℕ) → Holds t h → Holds (suc t) (store r h (placeAt g t) (chunk (itemBytes r) d t))
+      advance h H = record { kept = step-kept ok f g d room cov t h l (H .kept); rows = λ p hp. go p hp (place-dec p (placeAt g t)) }
         where
-          ok : Fit r
-          ok = v .lent .fit
-
           b : List ℕ
           b = chunk (itemBytes r) d t
 
-          full : length b ≡ itemBytes r
-          full = chunk-full g d room i j k hi hj hk
+          here : Held r h (placeAt g t)
+          here = held-at ok f g d room cov h (H .kept) t l
 
-          here : Held r h q
-          here = kept-held f h (H .kept) ok q (cov i j k hi hj hk)
+          go : (p : Place) → Inside r p → Dec (p ≡ placeAt g t) → rowsOf r (store r h (placeAt g t) b) p ≡ upto (suc t) p
+          go p hp (yes e) =
+              ap (rowsOf r (store r h (placeAt g t) b)) e ∙ store-same ok h (placeAt g t) here b (chunk-full g d room t l) ∙ sym upto-same ∙ ap (upto (suc t)) (sym e)
+          go p hp (no n) = store-other ok h (placeAt g t) here b (chunk-full g d room t l) (kept-valid f h (H .kept) v) p hp n ∙ H .rows p hp ∙ sym (upto-other p n)
 
-          go : (p : Place) → Inside r p → Dec (p ≡ q) → rowsOf r (store r h q b) p ≡ upto (suc t) p
-          go p hp (yes e) = ap (rowsOf r (store r h q b)) e ∙ store-same ok h q here b full ∙ sym upto-same ∙ ap (upto (suc t)) (sym e)
-          go p hp (no n) = store-other ok h q here b full (kept-valid f h (H .kept) v) p hp n ∙ H .rows p hp ∙ sym (upto-other p n)
-
-    all-written : Holds (tri (runOf g 1) (runOf g 2) (runOf g 0) 0 0) (written r g d f)
-    unfolding written q t
-    all-written =
-        up-rule (λ i. Holds (tri (runOf g 1) (runOf g 2) i 0 0)) (runOf g 0) _ f (rw (zero-mul, zero-mul) begin)
-        (λ i h hi H.
-        rw (← tri-carry-2 (runOf g 1) (runOf g 2) i)
-        (up-rule (λ j. Holds (tri (runOf g 1) (runOf g 2) i j 0)) (runOf g 1) _ h H
-        (λ j h′ hj H′.
-        rw (← tri-carry (runOf g 1) (runOf g 2) i j)
-        (up-rule (λ k. Holds (tri (runOf g 1) (runOf g 2) i j k)) (runOf g 2) _ h′ H′ (λ k h″ hk H″. advance i j k hi hj hk h″ H″)))))
+    all-written : Holds (sizeOf g) (written r g d f)
+    all-written = written-rule g d f Holds begin (λ t h l H. advance t l h H)
 
     -- each row is as the ledger says
     pub written-rows : (p : Place) → Inside r p → rowsOf r (written r g d f) p ≡ cond (has g p) (bytes (chunk (itemBytes r) d (index g p))) (rowsOf r f p)
@@ -291,7 +278,7 @@ module _ (r : Record) where
     written-rows p hp = all-written .rows p hp ∙ go (has g p) refl
       where
         go : (b : Bool) → has g p ≡ b
-            → cond (b && ltb (index g p) (tri (runOf g 1) (runOf g 2) (runOf g 0) 0 0)) (bytes (chunk (itemBytes r) d (index g p))) (rowsOf r f p)
+            → cond (b && ltb (index g p) (sizeOf g)) (bytes (chunk (itemBytes r) d (index g p))) (rowsOf r f p)
             ≡ cond b (bytes (chunk (itemBytes r) d (index g p))) (rowsOf r f p)
         go false e = refl
-        go true e = rw (lt-ltb (index g p) (tri (runOf g 1) (runOf g 2) (runOf g 0) 0 0) (simp add-zero (index-lt g p (has-true g p e))))
+        go true e = rw (lt-ltb (index g p) (sizeOf g) (index-lt g p (has-true g p e)))

@@ -1,8 +1,7 @@
--- Sample places of an opened cube, and what each holds. r is the record that opening gave, f the cube's bytes.
+-- Sample places of an opened cube, and what each holds (FORMAT 8). r is the record that opening gave, f the cube's bytes.
 use mathlib.Core.List.{List}
 use Prim.Native.Nat.{ℕ, _+_, _*_, _/_, _%_, _<_}
 use lib.Ieee.{Float, binary64, ofBits}
-use lib.ListN.{replicate}
 use Rattle.endian.specs.Bytes.{peek, le, lows}
 use Rattle.geometry.specs.Geometry.{entryOf, itemOf}
 use Rattle.record.specs.Types.{widthOf, decodeOf}
@@ -10,7 +9,8 @@ use Rattle.record.specs.Record.{sideOf, countOf, bricksAlong, extentAlong, leve
 use Rattle.record.specs.declared.Record.{Record}
 use Rattle.table.specs.declared.Kind.{Kind}
 use Rattle.table.specs.declared.Kind.the-variants.{Missing, Constant, Stored}
-use Rattle.opening.specs.Opening.{kindsOf}
+unfoldable pub use Rattle.table.specs.Entries.{kindIn}
+use Rattle.cube.specs.declared.MissingBrick.{MissingBrick}
 
 -- a sample place: a level and an index of three numbers in that level's bricks
 pub record Place : Type 0 where
@@ -19,7 +19,7 @@ pub record Place : Type 0 where
   pub j : ℕ
   pub k : ℕ
 
--- what a place holds: a row of the build paper's ledger, its bytes or the word missing
+-- what a place holds: a row of the ledger (FORMAT 12.4), its bytes or the word missing
 pub data Row : Type 0 where
   missing : Row
   bytes : List ℕ → Row
@@ -28,10 +28,6 @@ module _ (r : Record) where
   -- the bytes of an item
   abbrev pub itemBytes : ℕ
   itemBytes = widthOf (r .description .datatype)
-
-  -- what entry e names
-  unfoldable pub kindIn : List ℕ → ℕ → Kind
-  kindIn f e = kindsOf (r .description) (r .text) f e
 
   -- the entry of brick (x, y, z) of level l
   unfoldable pub entryIn : ℕ → ℕ → ℕ → ℕ → ℕ
@@ -57,17 +53,25 @@ module _ (r : Record) where
 
   -- the cube's bytes, read as a ledger
   unfoldable pub rowsOf : List ℕ → Place → Row
-  rowsOf f p = rowIn (kindIn f (brickOf p)) f p
+  rowsOf f p = rowIn (kindIn r f (brickOf p)) f p
 
-  -- the storage bytes that a row reads as: a missing brick reads as storage zero
+  -- what a missing brick reads as: storage zero, the unsigned number of an item's bytes, and the float +0.0
+  unfoldable pub missingBrick : MissingBrick
+  missingBrick = record { value = 0; float = ofBits binary64 0 }
+
+  -- the storage bytes that a row reads as
   unfoldable pub rawOf : Row → List ℕ
-  rawOf missing = replicate itemBytes 0
+  rawOf missing = lows itemBytes (missingBrick .value)
   rawOf (bytes b) = b
 
-  -- the float that a row reads as: a missing brick reads as +0.0
+  -- the float that a row reads as, by the float rules
   unfoldable pub floatOf : Row → Float
-  floatOf missing = ofBits binary64 0
+  floatOf missing = missingBrick .float
   floatOf (bytes b) = decodeOf (r .description .datatype) (r .grid .min) (r .grid .max) (le itemBytes b 0)
+
+  -- what a raw and a float read of a row give
+  abbrev pub readingOf : Row → List ℕ × Float
+  readingOf row = (rawOf row, floatOf row)
 
   -- a place of the level's bricks, padding included
   pub record Inside (p : Place) : Type 0 where

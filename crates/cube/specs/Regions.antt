@@ -1,24 +1,23 @@
--- Regions: their order, what reading one gives and what writing one leaves, and the checks.
+-- Regions (FORMAT 8.7, 8.8, 9.3): their order, what reading one gives and what writing one leaves, the entries that one touches, and the checks.
 use mathlib.Core.Bool.{Bool, true, false, not, _&&_, cond}
 use mathlib.Core.List.{List, [], _∷_, _++_}
-use mathlib.Core.Option.{Option, none, some}
-use Prim.Native.Nat.{ℕ, suc, _+_, _-_, _*_, _/_}
+use Prim.Native.Nat.{ℕ, _+_, _-_, _*_, _/_, _%_}
 use lib.Dec.{eqb, leb, ltb}
 use lib.Ieee.{Float}
 use lib.ListN.{getD, length, drop}
-use Rattle.endian.specs.Loops.{cat, up, tri}
+use Rattle.endian.specs.Loops.{cat, up, first, any, tri}
 use Rattle.endian.specs.Bytes.{peek, put}
-use Rattle.record.specs.Answers.{refused, refusedAt}
-use Rattle.record.specs.Record.{sideOf, extentAlong, headerOf, brickBytesOf}
+use Rattle.record.specs.Answers.{refused, unlessFound}
+use Rattle.record.specs.Record.{extentAlong, bricksOf}
 use Rattle.record.specs.declared.Record.{Record}
 use Rattle.record.specs.declared.Verdict.{Verdict}
 use Rattle.record.specs.declared.Verdict.the-variants.{Taken, Refused}
 use Rattle.checks.specs.Fits.{breaks14With}
-use Rattle.table.specs.Entries.{outOfRange}
+use Rattle.table.specs.Entries.{offsetIn, breaks12}
 use Rattle.table.specs.declared.Kind.{Kind}
 use Rattle.table.specs.declared.Kind.the-variants.{Missing, Constant, Stored}
 use Rattle.cube.specs.declared.Region.{Region}
-use Rattle.cube.specs.Places.{Place, Row, itemBytes, kindIn, entryIn, brickOf, byteOf, rawOf, floatOf}
+use Rattle.cube.specs.Places.{Place, Row, itemBytes, kindIn, brickOf, byteOf, rawOf, floatOf}
 
 -- start and count of a region in direction i
 abbrev pub startOf : Region → ℕ → ℕ
@@ -35,10 +34,14 @@ place g i j k = record { lvl = g .level; i = startOf g 0 + i; j = startOf g 1 + 
 abbrev pub sizeOf : Region → ℕ
 sizeOf g = runOf g 0 * runOf g 1 * runOf g 2
 
+-- its t-th place in a raw read's order: vertical fastest, inline slowest
+abbrev pub placeAt : Region → ℕ → Place
+placeAt g t = place g (t / runOf g 2 / runOf g 1) (t / runOf g 2 % runOf g 1) (t % runOf g 2)
+
 abbrev pub between : ℕ → ℕ → ℕ → Bool
 between a c x = leb a x && ltb x (a + c)
 
--- whether it has the place, and the place's number in a raw read's order: vertical fastest, inline slowest
+-- whether it has the place, and the place's number in that order
 unfoldable pub has : Region → Place → Bool
 has g p = eqb (g .level) (p .lvl) && (between (startOf g 0) (runOf g 0) (p .i) && (between (startOf g 1) (runOf g 1) (p .j) && between (startOf g 2) (runOf g 2) (p .k)))
 
@@ -49,29 +52,41 @@ index g p = tri (runOf g 1) (runOf g 2) (p .i - startOf g 0) (p .j - startOf g 1
 abbrev pub chunk : ℕ → List ℕ → ℕ → List ℕ
 chunk w d t = peek d (t * w) w
 
+abbrev pub isStored : Kind → Bool
+isStored Missing = false
+isStored (Constant v) = false
+isStored (Stored o) = true
+
 module _ (r : Record) where
   -- the rows of a region in the read's order, as bytes and as floats
   unfoldable pub rawRows : (Place → Row) → Region → List ℕ
-  rawRows row g = cat (runOf g 0) (λ i. cat (runOf g 1) (λ j. cat (runOf g 2) (λ k. rawOf r (row (place g i j k)))))
+  rawRows row g = cat (sizeOf g) (λ t. rawOf r (row (placeAt g t)))
 
   unfoldable pub floatRows : (Place → Row) → Region → List Float
-  floatRows row g = cat (runOf g 0) (λ i. cat (runOf g 1) (λ j. cat (runOf g 2) (λ k. floatOf r (row (place g i j k)) ∷ [])))
+  floatRows row g = cat (sizeOf g) (λ t. floatOf r (row (placeAt g t)) ∷ [])
 
-  abbrev pub offsetIn : Kind → ℕ
-  offsetIn Missing = 0
-  offsetIn (Constant v) = 0
-  offsetIn (Stored o) = o
+  -- where a place's bytes start in the file, its brick being stored
+  unfoldable pub placeByte : List ℕ → Place → ℕ
+  placeByte f p = byteOf r (offsetIn (kindIn r f (brickOf r p))) p
 
-  -- one sample's bytes put into its place, its brick being stored
+  -- one item's bytes put there
   unfoldable pub store : List ℕ → Place → List ℕ → List ℕ
-  store f p b = put f (byteOf r (offsetIn (kindIn r f (brickOf r p))) p) b
+  store f p b = put f (placeByte f p) b
 
-  -- the cube with d's bytes in the places of g, in a raw read's order
+  -- the cube with the lent item of each place of the region in that place, in a raw read's order. Where two of its bricks share a byte, which
+  -- no cube that opened lets them, the rules leave open whose byte stands: here it is the later place's
   unfoldable pub written : Region → List ℕ → List ℕ → List ℕ
-  written g d f =
-      up (runOf g 0)
-      (λ i. up (runOf g 1) (λ j. up (runOf g 2) (λ k h. store h (place g i j k) (chunk (itemBytes r) d (tri (runOf g 1) (runOf g 2) i j k)))))
-      f
+  written g d f = up (sizeOf g) (λ t h. store h (placeAt g t) (chunk (itemBytes r) d t)) f
+
+  -- ---- the entries that a region touches
+
+  -- entry e is touched: a sample of the region lies in its brick
+  unfoldable pub touches : Region → ℕ → Bool
+  touches g e = any (λ t. eqb (brickOf r (placeAt g t)) e) (sizeOf g)
+
+  -- refused by check n with the lowest entry that is touched and bad; where there is none, the later checks
+  abbrev pub unlessTouched : ℕ → (ℕ → Bool) → (ℕ → Bool) → Verdict → Verdict
+  unlessTouched n touched bad later = unlessFound n (first (λ e. touched e && bad e) (bricksOf (r .description))) (bricksOf (r .description)) later
 
   -- ---- the checks
 
@@ -82,49 +97,18 @@ module _ (r : Record) where
   unfoldable pub inExtent : Region → Bool
   inExtent g = runInside g 0 && runInside g 1 && runInside g 2
 
-  -- how many bricks of side s a run from a, c long, touches
-  abbrev pub span : ℕ → ℕ → ℕ → ℕ
-  span s a c = suc ((a + c - 1) / s - a / s)
-
-  -- the entries that the region touches, ascending: inline runs fastest, vertical slowest
-  unfoldable pub touched : Region → List ℕ
-  touched g =
-      cat (span (sideOf (r .description) 2) (startOf g 2) (runOf g 2))
-      (λ z. cat (span (sideOf (r .description) 1) (startOf g 1) (runOf g 1))
-      (λ y. cat (span (sideOf (r .description) 0) (startOf g 0) (runOf g 0))
-      (λ x. entryIn r (g .level) (startOf g 0 / sideOf (r .description) 0 + x) (startOf g 1 / sideOf (r .description) 1 + y) (startOf g 2 / sideOf (r .description) 2 + z) ∷ [])))
-
-  -- entry e is out of range, is not stored
-  abbrev pub badRange : List ℕ → ℕ → Bool
-  badRange f e = outOfRange (headerOf (r .description) (r .text)) (brickBytesOf (r .description)) (length f) (kindIn r f e)
-
-  abbrev pub isStored : Kind → Bool
-  isStored Missing = false
-  isStored (Constant v) = false
-  isStored (Stored o) = true
-
+  -- entry e is not stored
   abbrev pub notStored : List ℕ → ℕ → Bool
   notStored f e = not (isStored (kindIn r f e))
 
--- the first of a list that passes
-unfoldable pub find : (ℕ → Bool) → List ℕ → Option ℕ
-find t [] = none
-find t (x ∷ xs) = cond (t x) (some x) (find t xs)
-
--- refused by check n with the entry that was found, else the later checks
-abbrev pub unlessIn : ℕ → Option ℕ → Verdict → Verdict
-unlessIn n none later = later
-unlessIn n (some e) later = refusedAt n e
-
-module _ (r : Record) where
   -- checks 14, 15, 16, 18 and 12: room is what the lent buffer has, need what the region takes
   unfoldable pub regionVerdict : List ℕ → Region → ℕ → ℕ → Verdict → Verdict
   regionVerdict f g room need later =
       cond (breaks14With r (length f)) (refused 14)
       (cond (leb (r .levels) (g .level)) (refused 15)
-      (cond (not (inExtent r g)) (refused 16)
+      (cond (not (inExtent g)) (refused 16)
       (cond (ltb room need) (refused 18)
-      (unlessIn 12 (find (badRange r f) (touched r g))
+      (unlessTouched 12 (touches g) (breaks12 r f)
       later))))
 
   -- a raw read into a buffer of n bytes, a float read into one of n floats, a write of n lent bytes
@@ -135,7 +119,7 @@ module _ (r : Record) where
   floatVerdict f g n = regionVerdict f g n (sizeOf g) Taken
 
   unfoldable pub writeVerdict : List ℕ → Region → ℕ → Verdict
-  writeVerdict f g n = regionVerdict f g n (sizeOf g * itemBytes r) (unlessIn 19 (find (notStored r f) (touched r g)) Taken)
+  writeVerdict f g n = regionVerdict f g n (sizeOf g * itemBytes r) (unlessTouched 19 (touches g) (notStored f) Taken)
 
 -- what stands after a call: what it makes where it is taken, what stood before where it is refused
 abbrev pub after : {A : Type 0} → Verdict → List A → List A → List A

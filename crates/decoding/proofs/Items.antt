@@ -1,18 +1,17 @@
 -- A buffer filled item by item, and what a type number says of its items. Assumes nothing.
 use Prim.Native.Nat.{ℕ, _+_, _*_, _^_, _≤_, _<_}
 use mathlib.Core.Path.{_≡_, refl, sym, ap, _∙_}
-use mathlib.Core.Bool.{Bool, true, false, cond}
 use mathlib.Core.Logic.{_⊎_, inl, inr, ⊎-elim}
 use mathlib.Core.List.{List, [], _∷_, _++_}
 use native.Mathlib.Omega.{arith}
-use lib.Dec.{eqb}
 use lib.Ieee.{Float}
 use lib.ListN.{length, getD, set}
 use Rattle.endian.specs.Loops.{cat}
 use Rattle.endian.specs.Bytes.{le}
 use Rattle.record.specs.Types.{codingOf, itemWidth, widthOf, decodeBy, decodeOf}
 use Rattle.record.specs.declared.Coding.{Coding}
-use Rattle.record.specs.declared.Coding.the-variants.{Scaled, Float32, NoType}
+use Rattle.record.specs.declared.Coding.the-variants.{Scaled, Float32}
+use Rattle.record.proofs.Laws.{coding-each, scaled-is}
 use Rattle.decoding.specs.Items.{Integers}
 use Rattle.endian.proofs.Cats.{cat-more}
 use Rattle.endian.proofs.Parts.{Filled, filled-store, filled-all}
@@ -33,45 +32,22 @@ pub one : (s : List ℕ) (at : ℕ) → getD s at 0 ≡ le 1 s at
 unfolding le
 one s at = omega arith
 
-coding : Bool → Bool → Bool → Coding
-coding a b c = cond a (Scaled 1 128) (cond b (Scaled 2 32768) (cond c (Float32 4) (NoType (record { number = 5; entry = 0 }))))
-
 -- the integer types, and the float type
 module _ (k w h : ℕ) where
-  scaled-is : codingOf k ≡ Scaled w h → ((w ≡ 1) × (h ≡ 128)) ⊎ ((w ≡ 2) × (h ≡ 32768))
-  unfolding codingOf coding
-  scaled-is e = go (eqb k 0) (eqb k 2) (eqb k 6) e
-    where
-      go : (a b c : Bool) → coding a b c ≡ Scaled w h → ((w ≡ 1) × (h ≡ 128)) ⊎ ((w ≡ 2) × (h ≡ 32768))
-      go true b c q = inl (cc, cc)
-      go false true c q = inr (cc, cc)
-      go false false true q = let z : _≡_ {A = ℕ} 0 1 = cc in absurd (omega arith)
-      go false false false q = let z : _≡_ {A = ℕ} 0 1 = cc in absurd (omega arith)
-
   -- of one byte, and of more
   pub int8-is : codingOf k ≡ Scaled w h → w ≡ 1 → codingOf k ≡ Scaled 1 128
-  int8-is e one = ⊎-elim (λ (q : (w ≡ 1) × (h ≡ 128)). rw (q .0, q .1) at e) (λ (q : (w ≡ 2) × (h ≡ 32768)). absurd (omega arith)) (scaled-is e)
+  int8-is e one = ⊎-elim (λ (q : (w ≡ 1) × (h ≡ 128)). rw (q .0, q .1) at e) (λ (q : (w ≡ 2) × (h ≡ 32768)). absurd (omega arith)) (scaled-is k w h e)
 
   pub int16-is : codingOf k ≡ Scaled w h → (w ≡ 1 → ⊥) → codingOf k ≡ Scaled 2 32768
-  int16-is e more = ⊎-elim (λ (q : (w ≡ 1) × (h ≡ 128)). absurd (more (q .0))) (λ (q : (w ≡ 2) × (h ≡ 32768)). rw (q .0, q .1) at e) (scaled-is e)
-
-  -- the numbers of an integer type's items
-  pub scaled-fits : (n : ℕ) → codingOf k ≡ Scaled w h → n < 256 ^ w → (h ≤ 32768) × (0 < h) × (n < 2 * h)
-  scaled-fits n e l =
-      ⊎-elim
-      (λ (q : (w ≡ 1) × (h ≡ 128)). let l′ : n < 256 ^ 1 = rw (q .0) at l in (omega arith, omega arith, omega arith))
-      (λ (q : (w ≡ 2) × (h ≡ 32768)). let l′ : n < 256 ^ 2 = rw (q .0) at l in (omega arith, omega arith, omega arith))
-      (scaled-is e)
+  int16-is e more = ⊎-elim (λ (q : (w ≡ 1) × (h ≡ 128)). absurd (more (q .0))) (λ (q : (w ≡ 2) × (h ≡ 32768)). rw (q .0, q .1) at e) (scaled-is k w h e)
 
 pub float-is : (k w : ℕ) → codingOf k ≡ Float32 w → codingOf k ≡ Float32 4
-unfolding codingOf coding
-float-is k w e = go (eqb k 0) (eqb k 2) (eqb k 6) e
-  where
-    go : (a b c : Bool) → coding a b c ≡ Float32 w → coding a b c ≡ Float32 4
-    go true b c q = let z : _≡_ {A = ℕ} 0 1 = cc in absurd (omega arith)
-    go false true c q = let z : _≡_ {A = ℕ} 0 1 = cc in absurd (omega arith)
-    go false false true q = refl
-    go false false false q = let z : _≡_ {A = ℕ} 0 1 = cc in absurd (omega arith)
+float-is k w =
+    coding-each (λ k x. x ≡ Float32 w → x ≡ Float32 4) (λ q. let z : _≡_ {A = ℕ} 0 1 = cc in absurd (omega arith))
+    (λ q. let z : _≡_ {A = ℕ} 0 1 = cc in absurd (omega arith))
+    (λ q. refl)
+    (λ k q. let z : _≡_ {A = ℕ} 0 1 = cc in absurd (omega arith))
+    k
 
 pub int8 : Integers 1 128
 int8 = record { wide = inl refl; some = omega arith; few = omega arith; all = refl }

@@ -15,7 +15,7 @@ ghost use Rattle.endian.specs.Loops.{cat};
 ghost use Rattle.endian.specs.Bytes.{le};
 ghost use Rattle.floats.specs.Rules.{scaledOf, widenedOf};
 ghost use Rattle.record.specs.Types.{codingOf, noType, widthOf, decodeOf};
-ghost use Rattle.table.specs.Windows.{Width};
+ghost use Rattle.table.specs.Entries.{Width};
 ghost use Rattle.decoding.specs.Items.{Integers};
 
 // The unsigned number of an item of 1, 2 or 4 bytes. Called with a literal width, it is one load.

@@ -58,6 +58,18 @@ module _ {A : Type 0} where
       (ap (λ (x : List A). cat (m * n) (λ r. g (r / n) (r % n)) ++ x)
       (cat-same n (g m) (λ t. g ((m * n + t) / n) ((m * n + t) % n)) (λ t l. rw (digits-div m l, digits-mod m l))))
 
+  pub up-same : (n : ℕ) (g h : ℕ → A → A) (s : A) → ((i : ℕ) → i < n → (x : A) → g i x ≡ h i x) → up n g s ≡ up n h s
+  unfolding up
+  up-same zero g h s e = refl
+  up-same (suc n) g h s e = ap (g n) (up-same n g h s (λ i l. e i (le-step l))) ∙ e n (le-refl (suc n)) (up n h s)
+
+  pub up-up : (m n : ℕ) (h : ℕ → ℕ → A → A) (s : A) → up m (λ i. up n (h i)) s ≡ up (m * n) (λ t. h (t / n) (t % n)) s
+  unfolding up
+  up-up zero n h s = rw zero-mul
+  up-up (suc m) n h s =
+      rw (suc-mul, up-add (m * n) n (λ t. h (t / n) (t % n)) s, up-up m n h s)
+      (up-same n (h m) (λ t. h ((m * n + t) / n) ((m * n + t) % n)) _ (λ t l x. rw (digits-div m l, digits-mod m l)))
+
   -- the m-th of n lists of w items each
   pub cat-part : (n w m : ℕ) (g : ℕ → List A) → ((t : ℕ) → t < n → length (g t) ≡ w) → m < n → take w (drop (m * w) (cat n g)) ≡ g m
   unfolding cat

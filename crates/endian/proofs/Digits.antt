@@ -1,7 +1,8 @@
 -- Numbers of two and three digits, as entry numbers, item numbers and places in a region are. Assumes nothing.
-use Prim.Native.Nat.{ℕ, suc, _+_, _*_, _/_, _%_, _≤_, _<_}
+use Prim.Native.Nat.{ℕ, zero, suc, _+_, _*_, _/_, _%_, _≤_, _<_}
 use mathlib.Core.Path.{_≡_, sym, ap, _∙_}
-use native.Mathlib.Nat.{suc-mul, mul-le-mul-right, div-add-mod', add-zero, add-suc}
+use native.Mathlib.Nat.{suc-mul, mul-le-mul-right, div-add-mod', add-zero, add-suc, mul-zero, not-suc-le-zero}
+use native.Mathlib.Omega.{arith}
 use lib.Arith.{digits-lt, digits-div, digits-mod}
 use Rattle.endian.specs.Loops.{tri}
 
@@ -35,6 +36,11 @@ tri-carry-2 m n a = simp (suc-mul, add-zero)
 pub tri-last : (l m n : ℕ) → suc (tri (suc m) (suc n) l m n) ≡ suc l * suc m * suc n
 tri-last l m n =
     sym (tri-suc (suc m) (suc n) l m n) ∙ tri-carry (suc m) (suc n) l m ∙ tri-carry-2 (suc m) (suc n) l ∙ simp add-zero
+
+-- what is below a product has factors that are not 0
+pub pos-right : (a b t : ℕ) → t < a * b → 0 < b
+pos-right a zero t h = absurd (not-suc-le-zero (rw mul-zero at h))
+pos-right a (suc b) t h = omega arith
 
 -- items of w bytes, one after the other
 pub next-item : (w a b : ℕ) → a < b → a * w + w ≤ b * w

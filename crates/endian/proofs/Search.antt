@@ -1,13 +1,15 @@
 -- Laws of `first` and `sumTo`. Assumes nothing.
 use mathlib.Core.Path.{_≡_, refl, sym, _∙_}
-use mathlib.Core.Logic.{_⊎_, ⊎-elim}
-use mathlib.Core.Bool.{Bool, true, false}
+use mathlib.Core.Logic.{_⊎_, inl, inr, ⊎-elim}
+use mathlib.Core.Bool.{Bool, true, false, _&&_, _||_}
 use Prim.Native.Nat.{ℕ, zero, suc, _+_, _≤_, _<_, zero-le}
 use native.Mathlib.Decide.{decLe}
 use native.Mathlib.Nat.{eq-or-lt-of-le, lt-of-not-le, not-suc-le-zero, le-refl, add-suc, add-zero}
 use native.Mathlib.Numerals.{add-one}
 use native.Mathlib.Omega.{arith}
-use Rattle.endian.specs.Loops.{firstFrom, first, sumTo}
+use lib.Dec.{ltb}
+use borrow.Author.Tests.{ltb-true, lt-ltb}
+use Rattle.endian.specs.Loops.{firstFrom, first, any, sumTo}
 
 -- what is both true and false
 pub clash : {X : Type 0} (b : Bool) → b ≡ true → b ≡ false → X
@@ -15,6 +17,14 @@ clash {X} b t f = absurd (let z : _≡_ {A = Bool} true false = sym t ∙ f in n
   where
     no-true : _≡_ {A = Bool} true false → ⊥
     no-true z = let w : _≡_ {A = ℕ} 0 1 = cc in omega arith
+
+pub both : (a b : Bool) → a && b ≡ true → (a ≡ true) × (b ≡ true)
+both true b e = (refl, e)
+both false b e = clash false e refl
+
+pub either : (a b : Bool) → a || b ≡ true → (a ≡ true) ⊎ (b ≡ true)
+either true b e = inl refl
+either false b e = inr e
 
 from-true : (p : ℕ → Bool) (k fuel : ℕ) → p k ≡ true → firstFrom p k (suc fuel) ≡ k
 unfolding firstFrom
@@ -82,6 +92,13 @@ first-upto p n m e =
       | yes h ↦ h
       | no h ↦ clash (p m) e (first-before p n m (lt-of-not-le h))
     ]
+
+-- one of n numbers passes: some number does, and any that does
+pub any-at : (p : ℕ → Bool) (n : ℕ) → any p n ≡ true → (i : ℕ) × (i < n) × (p i ≡ true)
+any-at p n e = let l : first p n < n = ltb-true (first p n) n e in (first p n, l, first-at p n l)
+
+pub any-is : (p : ℕ → Bool) (n i : ℕ) → i < n → p i ≡ true → any p n ≡ true
+any-is p n i l e = lt-ltb (first p n) n (omega (arith, first-upto p n i e))
 
 pub sum-none : (f : ℕ → ℕ) → sumTo f 0 ≡ 0
 unfolding sumTo

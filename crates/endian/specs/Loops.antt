@@ -2,6 +2,7 @@
 use mathlib.Core.Bool.{Bool, true, false}
 use mathlib.Core.List.{List, [], _++_}
 use Prim.Native.Nat.{ℕ, zero, suc, _+_, _*_}
+use lib.Dec.{ltb}
 
 module _ {A : Type 0} where
   -- g 0, g 1 .. g (n - 1), one after the other
@@ -22,6 +23,10 @@ firstFrom p k (suc fuel) = elim (p k) [ true ↦ k | false ↦ firstFrom p (suc 
 -- the lowest number below n that passes, or n where none does
 abbrev pub first : (ℕ → Bool) → ℕ → ℕ
 first p n = firstFrom p 0 n
+
+-- one of the numbers below n passes
+abbrev pub any : (ℕ → Bool) → ℕ → Bool
+any p n = ltb (first p n) n
 
 -- f 0 + .. + f (n - 1)
 unfoldable pub sumTo : (ℕ → ℕ) → ℕ → ℕ

@@ -4,3 +4,4 @@ pub mod Sums
 pub mod Places
 pub mod Patterns
 pub mod Signed
+pub mod Widening

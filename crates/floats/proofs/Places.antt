@@ -14,6 +14,7 @@ use lib.Ieee.Exact.{HasValue, round-exact}
 use lib.Ieee.Back.{round-whole}
 use lib.Ieee.Order.{drop, kept}
 use lib.Ieee.Scale.{round-same, grid, overflow, normal-of-fraction}
+use Rattle.geometry.specs.Limits.{sizeLimit}
 use Rattle.floats.specs.Rules.{finite}
 use Rattle.floats.specs.Position.{positionOf, signed, whole149, units149, exactAt, Near}
 use Rattle.floats.proofs.Rounding.{split, grid-err, round-at}
@@ -157,7 +158,7 @@ mul-value (fin t m e) (fin u n d) s i b p q =
     ∙ round-same binary64 s (m * up e * (n * up d)) (down e * down d) (i * b) (2 ^ 149) (mul-pos (down-pos e) (down-pos d)) (pow-pos 149)
     (subst (λ (z : ℕ). m * up e * (n * up d) * z ≡ i * b * (down e * down d)) (one-mul (2 ^ 149)) same)
 
-pub product : (i : ℕ) (y : Float) (w : Whole y) → i < 1048576 → HasValue (mul binary64 (ofInt binary64 (pos i)) y) (w .s) (i * (w .m * 2 ^ w .j)) (2 ^ 149)
+pub product : (i : ℕ) (y : Float) (w : Whole y) → i < sizeLimit → HasValue (mul binary64 (ofInt binary64 (pos i)) y) (w .s) (i * (w .m * 2 ^ w .j)) (2 ^ 149)
 unfolding ofInt
 product i y w h =
     let m = w .m in
@@ -186,7 +187,7 @@ value-units nan s p v = absurd v
 value-units (inf t) s p v = absurd v
 value-units (fin t m e) s p v = ap (λ (z : Bool). signed z (m * up e * 2 ^ 149 / down e)) (v .0) ∙ ap (signed s) (ap (λ (z : ℕ). z / down e) (v .1) ∙ mul-div-cancel p (down-pos e))
 
-pub near : (orig inc : Float) (i : ℕ) → T (fits binary32 orig) → T (fits binary32 inc) → T (finite orig) → T (finite inc) → i < 1048576 → Near orig inc i (positionOf orig inc i)
+pub near : (orig inc : Float) (i : ℕ) → T (fits binary32 orig) → T (fits binary32 inc) → T (finite orig) → T (finite inc) → i < sizeLimit → Near orig inc i (positionOf orig inc i)
 unfolding positionOf
 near orig inc i fo fi go gi h =
     let a = whole-of orig fo go in
@@ -211,5 +212,5 @@ near orig inc i fo fi go gi h =
     both : (a b c d : ℕ) → a < c → b ≤ d → a + b < c + d
     both a b c d p q = omega arith
 
-    fine : (a b : ℕ) → a < 2 ^ 277 → b ≤ 1048576 * 2 ^ 277 → a + b < 2 ^ 300
-    fine a b p q = lt-of-lt-of-le (both a b (2 ^ 277) (1048576 * 2 ^ 277) p q) (lit≤ tt)
+    fine : (a b : ℕ) → a < 2 ^ 277 → b ≤ sizeLimit * 2 ^ 277 → a + b < 2 ^ 300
+    fine a b p q = lt-of-lt-of-le (both a b (2 ^ 277) (sizeLimit * 2 ^ 277) p q) (lit≤ tt)

@@ -1,4 +1,4 @@
--- Position: its formula, and how far it may be from the exact value.
+-- Position (FORMAT 11.6, 11.7): its formula, and how far it may be from the exact value.
 use Prim.Native.Nat.{ℕ, _*_, _/_, _%_, _^_, _≤_}
 use mathlib.Core.Bool.{Bool, false, cond}
 use lib.Dec.{T, eqb}

@@ -1,4 +1,4 @@
--- The float rules of the build paper, over the library's floats. `Float` is one type for 32 and 64 bits: widening keeps the value.
+-- The float rules (FORMAT 11), over the library's floats. `Float` is one type for 32 and 64 bits: widening keeps the value.
 use Prim.Native.Nat.{ℕ, _-_, _*_}
 use mathlib.Core.Bool.{Bool, true, false, not, _&&_, cond}
 use lib.Dec.{eqb, ltb}

@@ -4,7 +4,9 @@ ghost use Prim.Native.Nat.{_-_, _*_, _<_, _≤_};
 ghost use lib.Dec.{T};
 ghost use lib.IntN.{pos, negℤ};
 ghost use lib.Ieee.{binary32, ofBits};
+ghost use Rattle.geometry.specs.Limits.{sizeLimit};
 ghost use Rattle.floats.specs.Rules.{finite, finiteBits, sameBits, rangeOk, convert, signedOf, integerOf, scaledOf, widenedOf, surveySize};
+ghost use Rattle.floats.specs.Widening.{WideningRule};
 ghost use Rattle.floats.specs.Position.{positionOf, Near};
 
 // A 32-bit field of a header as a float. A NaN's bits give the one NaN, computed from literals so that its sign is settled.
@@ -89,7 +91,7 @@ pub fn integer_value(raw: u32, half: u32) -> f64
     signed_item(raw, half) as f64
 }
 
-// The conversion in the paper's order of operations; a reciprocal would give other bits.
+// The conversion in the order of FORMAT 11.3; a reciprocal would give other bits.
 fn converted(s: i32, lo: i32, hi: i32, min: f64, max: f64) -> f64
     ensures { λ r. ⌜ r ≡ convert lo hi min max s ⌝ }
 {
@@ -110,7 +112,7 @@ pub fn scaled(raw: u32, half: u32, min: f64, max: f64) -> f64
 }
 
 pub fn position(orig: f32, inc: f32, i: u32) -> f64
-    requires { ⌜ T (finite orig) × T (finite inc) × (i < 1048576) ⌝ }
+    requires { ⌜ T (finite orig) × T (finite inc) × (i < sizeLimit) ⌝ }
     ensures value { λ r. ⌜ r ≡ positionOf orig inc i ⌝ }
     ensures error { λ r. ⌜ Near orig inc i r ⌝ }
 {
@@ -119,8 +121,14 @@ pub fn position(orig: f32, inc: f32, i: u32) -> f64
 
 // The bits of inc x size; a product past the largest float is infinite, and is written so.
 pub fn survey_size(inc: f32, size: u32) -> u32
-    requires { ⌜ T (finite inc) × (size ≤ 1048576) ⌝ }
+    requires { ⌜ T (finite inc) × (size ≤ sizeLimit) ⌝ }
     ensures { λ r. ⌜ r ≡ surveySize inc size ⌝ }
 {
     f32::to_bits(inc * (size as f32))
 }
+
+// What widening gives in bits: the one pattern for every NaN, and the exact value of all else. The function does nothing; its contract
+// is the theorem. It speaks of the logic's floats: the bits that compiled code stores for a NaN, the host's tests compare.
+pub fn widening_rule()
+    ensures { λ r. ⌜ WideningRule ⌝ }
+{}

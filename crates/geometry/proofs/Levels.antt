@@ -12,6 +12,7 @@ use lib.ListN.{getD}
 use borrow.Author.Tests.{eqb-true, eq-eqb}
 use Rattle.endian.specs.Loops.{first, firstFrom, sumTo}
 use Rattle.endian.proofs.Search.{clash, first-le, first-upto, first-at, first-before, first-is}
+use Rattle.geometry.specs.Limits.{leastExponent, sizeLimit, levelCap, countRoom}
 use Rattle.geometry.specs.Geometry.{ceilDiv, halved, extent, countAt, countIn, bricksAt, bricksIn, levels, bricks, alphas, Small, Sizes}
 use Rattle.geometry.specs.Laws.{AllowedSize, LastLevel, LevelsCover, OneCount, HalvingRule}
 
@@ -45,8 +46,8 @@ ceil-ceil n d e pd pe =
     swap m = mul-assoc m e d ∙ ap (λ (z : ℕ). m * z) (mul-comm e d)
 
 -- an allowed size and side give a small count
-pub ceil-small : (s d : ℕ) → s ≤ 1048576 → 4 ≤ d → ceilDiv s d ≤ 262144
-ceil-small s d hs hd = ceil-le s d 262144 (omega arith) (omega arith)
+pub ceil-small : (s d : ℕ) → s ≤ sizeLimit → 2 ^ leastExponent ≤ d → ceilDiv s d ≤ countRoom
+ceil-small s d hs hd = ceil-le s d countRoom (omega arith) (omega arith)
 
 -- and at least one brick
 pub ceil-pos : (s d : ℕ) → 1 ≤ s → 0 < d → 1 ≤ ceilDiv s d
@@ -85,28 +86,31 @@ unfolding halved
 half-pos n zero h = h
 half-pos n (suc l) h = omega (arith, half-pos n l h)
 
--- at level 18 one brick is left in a direction
-half-eighteen : (n : ℕ) → 1 ≤ n → n ≤ 262144 → halved n 18 ≡ 1
-half-eighteen n lo hi = le-antisymm (rw (at-direct n 18) (ceil-le n (2 ^ 18) 1 (pow-pos 18) (omega arith))) (half-pos n 18 lo)
+-- at this level one brick is left in a direction
+abbrev pub topLevel : ℕ
+topLevel = levelCap - leastExponent
 
-at-eighteen : {a b c : ℕ} → 1 ≤ a → 1 ≤ b → 1 ≤ c → Small a b c → bricksAt a b c 18 ≡ 1
-at-eighteen {a} {b} {c} la lb lc small = rw (half-eighteen a la (small .inline), half-eighteen b lb (small .crossline), half-eighteen c lc (small .vertical))
+half-top : (n : ℕ) → 1 ≤ n → n ≤ countRoom → halved n topLevel ≡ 1
+half-top n lo hi = le-antisymm (rw (at-direct n topLevel) (ceil-le n (2 ^ topLevel) 1 (pow-pos topLevel) (omega arith))) (half-pos n topLevel lo)
 
--- the last level is the first with one brick: the bound of 20 in `levels` is never met
+at-top : {a b c : ℕ} → 1 ≤ a → 1 ≤ b → 1 ≤ c → Small a b c → bricksAt a b c topLevel ≡ 1
+at-top {a} {b} {c} la lb lc small = rw (half-top a la (small .inline), half-top b lb (small .crossline), half-top c lc (small .vertical))
+
+-- the last level is the first with one brick: the cap in `levels` is never met
 module _ (a b c : ℕ) (la : 1 ≤ a) (lb : 1 ≤ b) (lc : 1 ≤ c) (small : Small a b c) where
   abbrev single : ℕ → Bool
   single l = eqb (bricksAt a b c l) 1
 
   last-level : LastLevel a b c
   last-level =
-      let early : first single 20 ≤ 18 = first-upto single 20 18 (eq-eqb (bricksAt a b c 18) 1 (at-eighteen la lb lc small)) in
-      let top : levels a b c - 1 ≡ first single 20 = omega arith in
-      record { one = rw top (eqb-true (bricksAt a b c (first single 20)) 1 (first-at single 20 (omega arith))); more = above-one; found = omega arith }
+      let early : first single levelCap ≤ topLevel = first-upto single levelCap topLevel (eq-eqb (bricksAt a b c topLevel) 1 (at-top la lb lc small)) in
+      let top : levels a b c - 1 ≡ first single levelCap = omega arith in
+      record { one = rw top (eqb-true (bricksAt a b c (first single levelCap)) 1 (first-at single levelCap (omega arith))); more = above-one; found = omega arith }
     where
       above-one : (l : ℕ) → l < levels a b c - 1 → 1 < bricksAt a b c l
       above-one l h =
           ⊎-elim
-          (λ (e : 1 ≡ bricksAt a b c l). clash (single l) (eq-eqb (bricksAt a b c l) 1 (sym e)) (first-before single 20 l (omega arith)))
+          (λ (e : 1 ≡ bricksAt a b c l). clash (single l) (eq-eqb (bricksAt a b c l) 1 (sym e)) (first-before single levelCap l (omega arith)))
           (λ (g : 1 < bricksAt a b c l). g)
           (eq-or-lt-of-le (one-le-mul (one-le-mul (half-pos a l la) (half-pos b l lb)) (half-pos c l lc)))
 
@@ -145,16 +149,16 @@ halving-met =
     let four : AllowedSize 4 4 = record { some = omega arith; most = omega arith; least = omega arith } in
     halving-rule 9 4 4 4 4 4 2 nine four four (omega (arith, three))
 
-pub levels-le : (a b c : ℕ) → levels a b c ≤ 21
-levels-le a b c = omega (arith, first-le (λ m. eqb (bricksAt a b c m) 1) 20)
+pub levels-le : (a b c : ℕ) → levels a b c ≤ levelCap + 1
+levels-le a b c = omega (arith, first-le (λ m. eqb (bricksAt a b c m) 1) levelCap)
 
 pub levels-pos : (a b c : ℕ) → 1 ≤ levels a b c
 levels-pos a b c = omega arith
 
 -- what the search for the last level has found
-pub levels-at : (a b c l : ℕ) → l ≤ 20 → ((j : ℕ) → j < l → eqb (bricksAt a b c j) 1 ≡ false) → (l < 20 → eqb (bricksAt a b c l) 1 ≡ true)
+pub levels-at : (a b c l : ℕ) → l ≤ levelCap → ((j : ℕ) → j < l → eqb (bricksAt a b c j) 1 ≡ false) → (l < levelCap → eqb (bricksAt a b c l) 1 ≡ true)
     → l + 1 ≡ levels a b c
-levels-at a b c l h no-j yes-l = ap (λ (n : ℕ). n + 1) (sym (first-is (λ m. eqb (bricksAt a b c m) 1) 20 l h no-j yes-l))
+levels-at a b c l h no-j yes-l = ap (λ (n : ℕ). n + 1) (sym (first-is (λ m. eqb (bricksAt a b c m) 1) levelCap l h no-j yes-l))
 
 sum-le : (f g : ℕ → ℕ) → ((l : ℕ) → f l ≤ g l) → (n : ℕ) → sumTo f n ≤ sumTo g n
 unfolding sumTo
@@ -171,17 +175,23 @@ halved-small {a} {b} {c} l s =
     record { inline = le-trans (half-le a l) (s .inline); crossline = le-trans (half-le b l) (s .crossline); vertical = le-trans (half-le c l) (s .vertical) }
 
 -- products of small counts
-pub small-two : {x y : ℕ} → x ≤ 262144 → y ≤ 262144 → x * y ≤ 68719476736
+abbrev pub tilesRoom : ℕ
+tilesRoom = countRoom * countRoom
+
+abbrev pub bricksRoom : ℕ
+bricksRoom = tilesRoom * countRoom
+
+pub small-two : {x y : ℕ} → x ≤ countRoom → y ≤ countRoom → x * y ≤ tilesRoom
 small-two hx hy = mul-le-mul hx hy
 
-pub small-three : {x y z : ℕ} → Small x y z → x * y * z ≤ 18014398509481984
+pub small-three : {x y z : ℕ} → Small x y z → x * y * z ≤ bricksRoom
 small-three h = mul-le-mul (small-two (h .inline) (h .crossline)) (h .vertical)
 
 -- a level's bricks and alpha tiles, and those of the first n levels
-pub tiles-few : {a b c : ℕ} (l : ℕ) → Small a b c → halved a l * halved b l ≤ 68719476736
+pub tiles-few : {a b c : ℕ} (l : ℕ) → Small a b c → halved a l * halved b l ≤ tilesRoom
 tiles-few l s = let m = halved-small l s in small-two (m .inline) (m .crossline)
 
-pub bricks-few : {a b c : ℕ} (l : ℕ) → Small a b c → bricksAt a b c l ≤ 18014398509481984
+pub bricks-few : {a b c : ℕ} (l : ℕ) → Small a b c → bricksAt a b c l ≤ bricksRoom
 bricks-few l s = small-three (halved-small l s)
 
 pub sum-most : (f : ℕ → ℕ) (m : ℕ) → ((l : ℕ) → f l ≤ m) → (n : ℕ) → sumTo f n ≤ n * m
@@ -208,6 +218,6 @@ module _ {size side : List ℕ} (s : Sizes size side) where
       × (countAt (getD size 2 0) (getD side 2 0) l ≡ halved (countIn size side 2) l)
   halvings l = (one-count l (sizes-allowed .0) .halving, one-count l (sizes-allowed .1) .halving, one-count l (sizes-allowed .2) .halving)
 
-  -- level 18 has one brick
-  pub sizes-single : bricksIn size side 18 ≡ 1
-  sizes-single = let h = sizes-allowed in at-eighteen (allowed-some (h .0)) (allowed-some (h .1)) (allowed-some (h .2)) sizes-small
+  -- the top level has one brick
+  pub sizes-single : bricksIn size side topLevel ≡ 1
+  sizes-single = let h = sizes-allowed in at-top (allowed-some (h .0)) (allowed-some (h .1)) (allowed-some (h .2)) sizes-small

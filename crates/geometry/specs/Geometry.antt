@@ -1,4 +1,4 @@
--- Levels, brick counts, extents, entry numbers, item numbers and the header's end, as the build paper says them.
+-- Levels, brick counts, extents, entry numbers, item numbers and the header's end, as FORMAT 4, 5 and 7 say them.
 -- A cube has a, b and c bricks in the inline, crossline and vertical direction at level 0.
 use mathlib.Core.List.{List}
 use mathlib.Core.Path.{_≡_}
@@ -7,6 +7,7 @@ use lib.Count.{trailingZeros}
 use lib.Dec.{eqb}
 use lib.ListN.{getD}
 use Rattle.endian.specs.Loops.{first, sumTo, tri}
+use Rattle.geometry.specs.Limits.{textStart, leastExponent, sizeLimit, levelCap, countRoom, exponentRoom, sideRoom}
 use Rattle.geometry.specs.declared.Shape.{Shape}
 use Rattle.geometry.specs.declared.Level.{Level}
 
@@ -31,9 +32,9 @@ countAt size side l = ceilDiv size (side * 2 ^ l)
 abbrev pub bricksAt : ℕ → ℕ → ℕ → ℕ → ℕ
 bricksAt a b c l = halved a l * halved b l * halved c l
 
--- levels, to the first with one brick. 20 is past the last level of any allowed size (law `last` of `LevelsCover`)
+-- levels, to the first with one brick. The cap is past the last level of any allowed size (law `last` of `LevelsCover`)
 abbrev pub levels : ℕ → ℕ → ℕ → ℕ
-levels a b c = first (λ l. eqb (bricksAt a b c l) 1) 20 + 1
+levels a b c = first (λ l. eqb (bricksAt a b c l) 1) levelCap + 1
 
 -- the bricks of all levels
 abbrev pub bricks : ℕ → ℕ → ℕ → ℕ
@@ -67,9 +68,9 @@ itemOf s1 s2 i j k = tri s1 s2 i j k
 abbrev pub brickBytes : ℕ → ℕ → ℕ → ℕ → ℕ
 brickBytes s0 s1 s2 w = s0 * s1 * s2 * w
 
--- where the brick table starts: after 346 bytes, the text, the histogram and the alpha table
+-- where the brick table starts: after the text, the histogram and the alpha table
 abbrev pub tableStart : ℕ → ℕ → ℕ
-tableStart text alpha = 346 + text + 2064 + 8 * alpha
+tableStart text alpha = textStart + text + 2064 + 8 * alpha
 
 -- the end of the headers
 abbrev pub headerEnd : ℕ → ℕ → ℕ → ℕ
@@ -95,30 +96,30 @@ levelAt size side = levelOf (countIn size side 0) (countIn size side 1) (countIn
 abbrev pub shapeIn : List ℕ → List ℕ → Shape
 shapeIn size side = shapeOf (countIn size side 0) (countIn size side 1) (countIn size side 2)
 
--- counts so small that no product or sum of them wraps: the largest size by the least side, 1,048,576 / 4, in each direction
+-- counts so small that no product or sum of them wraps
 pub record Small (a b c : ℕ) : Type 0 where
-  pub inline : a ≤ 262144
-  pub crossline : b ≤ 262144
-  pub vertical : c ≤ 262144
+  pub inline : a ≤ countRoom
+  pub crossline : b ≤ countRoom
+  pub vertical : c ≤ countRoom
 
 -- n lies from a to b
 pub record Between (a b n : ℕ) : Type 0 where
   pub low : a ≤ n
   pub high : n ≤ b
 
--- n is the power of two that its trailing zeros say, at most 256
+-- n is the power of two that its trailing zeros say
 pub record Power (n : ℕ) : Type 0 where
   pub exponent : 2 ^ trailingZeros 64 n ≡ n
-  pub small : trailingZeros 64 n ≤ 8
+  pub small : trailingZeros 64 n ≤ exponentRoom
 
 -- what keeps every count, sum and product of three sizes and three sides from wrapping, and makes a quotient by a side a shift
 pub record Sizes (size side : List ℕ) : Type 0 where
-  pub side0 : Between 4 256 (getD side 0 0)
-  pub side1 : Between 4 256 (getD side 1 0)
-  pub side2 : Between 4 256 (getD side 2 0)
-  pub size0 : Between 1 1048576 (getD size 0 0)
-  pub size1 : Between 1 1048576 (getD size 1 0)
-  pub size2 : Between 1 1048576 (getD size 2 0)
+  pub side0 : Between (2 ^ leastExponent) sideRoom (getD side 0 0)
+  pub side1 : Between (2 ^ leastExponent) sideRoom (getD side 1 0)
+  pub side2 : Between (2 ^ leastExponent) sideRoom (getD side 2 0)
+  pub size0 : Between 1 sizeLimit (getD size 0 0)
+  pub size1 : Between 1 sizeLimit (getD size 1 0)
+  pub size2 : Between 1 sizeLimit (getD size 2 0)
   pub power0 : Power (getD side 0 0)
   pub power1 : Power (getD side 1 0)
   pub power2 : Power (getD side 2 0)

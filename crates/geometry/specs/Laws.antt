@@ -2,6 +2,7 @@
 use mathlib.Core.Path.{_≡_}
 use mathlib.Core.Logic.{_⊎_}
 use Prim.Native.Nat.{ℕ, _+_, _-_, _*_, _^_, _≤_, _<_}
+use Rattle.geometry.specs.Limits.{leastExponent, sizeLimit, levelCap}
 use Rattle.geometry.specs.Geometry.{ceilDiv, halved, extent, countAt, bricksAt, levels, bricks, entryOf, Brick}
 
 -- brick (i, j, k) comes before brick (i′, j′, k′) of the same level: vertical decides first, then crossline, then inline
@@ -29,15 +30,15 @@ pub record EntryNumbers : Type 0 where
 -- a size that check 6 allows, and a side no smaller than the least that check 4 allows
 pub record AllowedSize (size side : ℕ) : Type 0 where
   pub some : 1 ≤ size
-  pub most : size ≤ 1048576
-  pub least : 4 ≤ side
+  pub most : size ≤ sizeLimit
+  pub least : 2 ^ leastExponent ≤ side
 
 -- the last level of a cube with a, b and c bricks at level 0 is the first with one brick
 pub record LastLevel (a b c : ℕ) : Type 0 where
   pub one : bricksAt a b c (levels a b c - 1) ≡ 1
   pub more : (l : ℕ) → l < levels a b c - 1 → 1 < bricksAt a b c l
-  -- the search for it looks at 20 levels, and ends before
-  pub found : levels a b c - 1 < 20
+  -- the search for it looks at so many levels, and ends before
+  pub found : levels a b c - 1 < levelCap
 
 -- what the levels' brick counts owe, in a direction of this size and brick side, and in all three
 pub record LevelsCover : Type 0 where
@@ -52,7 +53,7 @@ pub record LevelsCover : Type 0 where
 
 -- the bricks of level l in a direction, three ways
 pub record OneCount (size side l : ℕ) : Type 0 where
-  -- size / (side x 2^l), rounded up, is the build paper's halving from level to level
+  -- size / (side x 2^l), rounded up, is the halving of FORMAT 4.2 from level to level
   pub halving : countAt size side l ≡ halved (ceilDiv size side) l
   -- and the level's extent / side, rounded up
   pub extents : countAt size side l ≡ ceilDiv (extent size l) side

@@ -22,7 +22,7 @@ lows-add zero k v = rw (zero-add k, div-one v)
 lows-add (suc j) k v = rw (suc-add j k, lows-add j k (v / 256), div-div-eq-div-mul v 256 (256 ^ j), pow-succ' 256 j)
 
 -- they depend on the number's rest alone
-lows-mod : (j v : ℕ) → lows j (v % 256 ^ j) ≡ lows j v
+pub lows-mod : (j v : ℕ) → lows j (v % 256 ^ j) ≡ lows j v
 unfolding lows
 lows-mod zero v = refl
 lows-mod (suc j) v =

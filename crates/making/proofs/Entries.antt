@@ -2,25 +2,24 @@
 use mathlib.Core.List.{List, _++_, append-assoc}
 use mathlib.Core.Logic.{⊎-elim}
 use mathlib.Core.Path.{_≡_, refl, ap, _∙_}
-use Prim.Native.Nat.{ℕ, _+_, _-_, _*_, _^_, _≤_, _<_}
+use Prim.Native.Nat.{ℕ, _+_, _-_, _*_, _%_, _^_, _≤_, _<_}
 use native.Mathlib.Omega.{arith}
 use lib.ListN.{length, take, drop, replicate, length-append}
 use lib.Seq.{take-at, drop-at, drop-append-add}
+use Rattle.geometry.specs.Limits.{textStart}
 use Rattle.endian.specs.Loops.{cat}
 use Rattle.endian.specs.Bytes.{peek, le}
 use Rattle.endian.proofs.Digits.{next-item}
 use Rattle.record.specs.Types.{widthOf}
 use Rattle.record.specs.Header.{textOf}
-use Rattle.record.specs.Record.{alphasOf, bricksOf, brickBytesOf, tableOf, headerOf}
+use Rattle.record.specs.Record.{alphasOf, bricksOf, brickBytesOf, tableOf, headerOf, recordOf}
 use Rattle.record.specs.declared.Description.{Description}
 use Rattle.record.specs.declared.Verdict.the-variants.{Taken}
 use Rattle.checks.specs.Checks.{described}
 use Rattle.checks.proofs.Described.{described-all, described-width}
-use Rattle.table.specs.Entries.{kindOf, kindAt}
-use Rattle.table.specs.Windows.{Width}
+use Rattle.table.specs.Entries.{wordAt, tableIn, wordIn, kindIn, Width}
 use Rattle.table.specs.declared.Kind.the-variants as kind
-use Rattle.table.proofs.Words.{kind-constant, kind-offset}
-use Rattle.opening.specs.Opening.{kindsOf}
+use Rattle.table.proofs.Tables.{names-constant, names-offset}
 use Rattle.making.specs.Making.{zeroBytes, fileHeader, infoHeader, firstBrick, entryBytes, afterHeaders, madeFile}
 use Rattle.making.specs.MadeOpens.{brickAt, madeKind}
 use Rattle.making.specs.declared.Fill.{Fill}
@@ -53,9 +52,9 @@ at-table d text fill =
 
 pub text-read : (d : Description) (text : List ℕ) (fill : Fill) → textOf (madeFile d text fill) (length text) ≡ text
 text-read d text fill =
-    let head : length (fileHeader ++ infoHeader d (length text)) ≡ 346 = length-append fileHeader (infoHeader d (length text)) ∙ omega (arith, file-header-length, info-header-length d (length text)) in
-    ap (λ (f : List ℕ). take (length text) (drop 346 f)) (at-text d text fill)
-    ∙ ap (λ (f : List ℕ). take (length text) f) (drop-at (fileHeader ++ infoHeader d (length text)) (text ++ afterText d text fill) 346 head)
+    let head : length (fileHeader ++ infoHeader d (length text)) ≡ textStart = length-append fileHeader (infoHeader d (length text)) ∙ omega (arith, file-header-length, info-header-length d (length text)) in
+    ap (λ (f : List ℕ). take (length text) (drop textStart f)) (at-text d text fill)
+    ∙ ap (λ (f : List ℕ). take (length text) f) (drop-at (fileHeader ++ infoHeader d (length text)) (text ++ afterText d text fill) textStart head)
     ∙ take-at text (afterText d text fill) (length text) refl
 
 -- ---- entries
@@ -67,10 +66,8 @@ entry-word d text fill e h =
     ∙ le-after 8 (beforeTable d text) _ (tableOf d (length text) + 8 * e) (e * 8) (omega (arith, before-length d text))
     ∙ le-cat 8 (bricksOf d) e (entryBytes d (length text) fill) (zeroBytes (afterHeaders d (length text) fill)) (entry-length d (length text) fill) h
 
-top-bit : (w : ℕ) → Width w → kindOf w (2 ^ 63) ≡ kind.Constant 0
-top-bit w h =
-    kind-constant w (2 ^ 63) (omega arith)
-    ∙ ap kind.Constant (⊎-elim (λ (e : w ≡ 1). rw e) (⊎-elim (λ (e : w ≡ 2). rw e) (λ (e : w ≡ 4). rw e)) h)
+top-bit : (w : ℕ) → Width w → 2 ^ 63 % 256 ^ w ≡ 0
+top-bit w = ⊎-elim (λ (e : w ≡ 1). rw e) (⊎-elim (λ (e : w ≡ 2). rw e) (λ (e : w ≡ 4). rw e))
 
 header-real : (d : Description) (n : ℕ) → 2 ≤ headerOf d n
 unfolding headerOf
@@ -95,16 +92,24 @@ module _ (d : Description) (n : ℕ) (taken : described d n ≡ Taken) where
       let real = header-real d n in
       record { after-header = omega (arith, q); inside = omega (arith, q); not-low = omega (arith, q); small = omega (arith, q) }
 
-  kind-word : (fill : Fill) (e : ℕ) → e < bricksOf d → kindOf (widthOf (d .datatype)) (le 8 (entryBytes d n fill e) 0) ≡ madeKind d n fill e
-  kind-word Constant e h = rw (le-lows 8 (2 ^ 63) (omega arith)) (top-bit (widthOf (d .datatype)) (described-width d n (described-all d n taken)))
-  kind-word Stored e h =
-      let p = placed e h in
-      rw (le-lows 8 (brickAt d n e) (omega (arith, p .small))) (kind-offset (widthOf (d .datatype)) (brickAt d n e) (p .not-low) (p .small))
+-- what the entries name, for a record of the description and the text's length
+module _ (d : Description) (text : List ℕ) (v m : ℕ) where
+  made-word : (fill : Fill) (e : ℕ) → e < bricksOf d
+      → wordIn (recordOf v d (length text) m) (madeFile d text fill) e ≡ le 8 (entryBytes d (length text) fill e) 0
+  unfolding wordIn wordAt tableIn recordOf
+  made-word fill e h = entry-word d text fill e h
 
-pub kinds-read : (d : Description) (text : List ℕ) (fill : Fill) → described d (length text) ≡ Taken → (e : ℕ) → e < bricksOf d
-    → kindsOf d (length text) (madeFile d text fill) e ≡ madeKind d (length text) fill e
-unfolding kindAt
-kinds-read d text fill taken e h = ap (kindOf (widthOf (d .datatype))) (entry-word d text fill e h) ∙ kind-word d (length text) taken fill e h
+  pub kinds-read : (fill : Fill) → described d (length text) ≡ Taken → (e : ℕ) → e < bricksOf d
+      → kindIn (recordOf v d (length text) m) (madeFile d text fill) e ≡ madeKind d (length text) fill e
+  unfolding recordOf
+  kinds-read Constant taken e h =
+      let q : wordIn (recordOf v d (length text) m) (madeFile d text Constant) e ≡ 2 ^ 63 = made-word Constant e h ∙ le-lows 8 (2 ^ 63) (omega arith) in
+      names-constant _ _ e (omega arith) ∙ rw q (ap kind.Constant (top-bit (widthOf (d .datatype)) (described-width d _ (described-all d _ taken))))
+  kinds-read Stored taken e h =
+      let p = placed d (length text) taken e h in
+      let q : wordIn (recordOf v d (length text) m) (madeFile d text Stored) e ≡ brickAt d (length text) e =
+      made-word Stored e h ∙ le-lows 8 _ (omega (arith, p .small)) in
+      names-offset _ _ e (omega (arith, p .not-low)) (omega (arith, p .small)) ∙ ap kind.Stored q
 
 -- ---- bricks
 

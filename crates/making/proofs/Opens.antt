@@ -6,19 +6,20 @@ use mathlib.Core.Path.{_≡_, refl, sym, _∙_}
 use Prim.Native.Nat.{ℕ, _+_, _-_, _*_, _≤_, _<_}
 use native.Mathlib.Omega.{arith}
 use lib.ListN.{getD, length, replicate}
+use Rattle.geometry.specs.Limits.{textStart}
 use Rattle.endian.specs.Bytes.{Bytes, peek}
 use Rattle.endian.proofs.Digits.{next-item}
 use Rattle.record.specs.Header.{versionOf, descriptionOf, textLengthOf, textOf}
 use Rattle.record.specs.Record.{alphasOf, bricksOf, brickBytesOf, headerOf, recordOf}
 use Rattle.record.specs.declared.Description.{Description}
+use Rattle.record.specs.declared.Record.{Record}
 use Rattle.record.specs.declared.Verdict.the-variants.{Taken}
 use Rattle.checks.specs.Checks.{breaks2, breaks3, breaks11, described}
 use Rattle.checks.proofs.Described.{described-all}
-use Rattle.table.specs.Entries.{lowestOutOfRange, lowestOverlap}
+use Rattle.table.specs.Entries.{kindIn, breaks12, breaks13}
 use Rattle.table.specs.declared.Kind.the-variants as kind
-use Rattle.table.proofs.Range.{range-all}
-use Rattle.table.proofs.Overlaps.{overlap-all}
-use Rattle.opening.specs.Opening.{kindsOf, recordIn}
+use Rattle.table.proofs.Tables.{inside-passes, apart-passes}
+use Rattle.opening.specs.Opening.{recordIn}
 use Rattle.opening.proofs.Rules.{Passed, passed-opened}
 use Rattle.making.specs.Making.{three, storedId, surveyOf, fileHeader, brickFields, idFields, gridFields, currentFields, surveyFields, unitFields, infoHeader, firstBrick, entryBytes, afterHeaders, madeLength, madeFile}
 use Rattle.making.specs.MadeOpens.{Items, Machine, brickAt, madeKind, MadeOpens}
@@ -94,6 +95,9 @@ file-bytes d text fill m b =
 -- ---- the file opens
 
 -- what a made file says when it is read
+abbrev madeRecord : Description → ℕ → Fill → Record
+madeRecord d n fill = recordOf 3 d n (madeLength d n fill)
+
 record Read (d : Description) (text : List ℕ) (fill : Fill) (f : List ℕ) : Type 0 where
   magic : breaks2 f ≡ false
   version : versionOf f ≡ 3
@@ -101,7 +105,7 @@ record Read (d : Description) (text : List ℕ) (fill : Fill) (f : List ℕ) : T
   text-length : textLengthOf f ≡ length text
   file-long : length f ≡ madeLength d (length text) fill
   text-is : textOf f (length text) ≡ text
-  kinds-are : (e : ℕ) → e < bricksOf d → kindsOf d (length text) f e ≡ madeKind d (length text) fill e
+  kinds-are : (e : ℕ) → e < bricksOf d → kindIn (madeRecord d (length text) fill) f e ≡ madeKind d (length text) fill e
 
 read-made : (d : Description) (text : List ℕ) (fill : Fill) → Machine d → described d (length text) ≡ Taken → Read d text fill (madeFile d text fill)
 read-made d text fill m taken = record {
@@ -111,7 +115,7 @@ read-made d text fill m taken = record {
   text-length = rw (at-text d text fill) (front-text d (length text) _ (omega (arith, text-few d (length text) taken)));
   file-long = file-length d text fill;
   text-is = text-read d text fill;
-  kinds-are = kinds-read d text fill taken;
+  kinds-are = kinds-read d text 3 _ fill taken;
 }
 
 -- a made entry that is stored
@@ -124,20 +128,23 @@ unfolding madeLength
 stored-long d n fill e = rw e
 
 module _ (d : Description) (text : List ℕ) (fill : Fill) (f : List ℕ) (taken : described d (length text) ≡ Taken) (r : Read d text fill f) where
-  no-12 : lowestOutOfRange (headerOf d (length text)) (brickBytesOf d) (length f) (kindsOf d (length text) f) (bricksOf d) ≡ bricksOf d
-  no-12 = range-all _ _ _ _ _ inside
+  no-12 : (e : ℕ) → e < bricksOf d → breaks12 (madeRecord d (length text) fill) f e ≡ false
+  unfolding recordOf
+  no-12 e h = inside-passes _ f e inside
     where
-      inside : (e : ℕ) → e < bricksOf d → (o : ℕ) → kindsOf d (length text) f e ≡ kind.Stored o → (headerOf d (length text) ≤ o) × (o + brickBytesOf d ≤ length f)
-      inside e h o k =
+      inside : (o : ℕ) → kindIn (madeRecord d (length text) fill) f e ≡ kind.Stored o → (headerOf d (length text) ≤ o) × (o + brickBytesOf d ≤ length f)
+      inside o k =
           let s = stored-at d (length text) fill e o (sym (r .kinds-are e h) ∙ k) in
           let p = placed d (length text) taken e h in
           (omega (arith, s .1, p .after-header), omega (arith, s .1, p .inside, r .file-long, stored-long d (length text) fill (s .0)))
 
-  no-13 : lowestOverlap (brickBytesOf d) (kindsOf d (length text) f) (bricksOf d) ≡ bricksOf d
-  no-13 = overlap-all _ _ _ apart
+  no-13 : (e : ℕ) → e < bricksOf d → breaks13 (madeRecord d (length text) fill) f e ≡ false
+  unfolding recordOf
+  no-13 e h = apart-passes _ f e apart
     where
-      apart : (a e : ℕ) → a < e → e < bricksOf d → (o p : ℕ) → kindsOf d (length text) f a ≡ kind.Stored o → kindsOf d (length text) f e ≡ kind.Stored p → (o + brickBytesOf d ≤ p) ⊎ (p + brickBytesOf d ≤ o)
-      apart a e g h o p k l =
+      apart : (a o p : ℕ) → a < e → kindIn (madeRecord d (length text) fill) f a ≡ kind.Stored o → kindIn (madeRecord d (length text) fill) f e ≡ kind.Stored p
+          → (o + brickBytesOf d ≤ p) ⊎ (p + brickBytesOf d ≤ o)
+      apart a o p g k l =
           let s = stored-at d (length text) fill a o (sym (r .kinds-are a (omega arith)) ∙ k) in
           let t = stored-at d (length text) fill e p (sym (r .kinds-are e h) ∙ l) in
           inl (omega (arith, s .1, t .1, next-item (brickBytesOf d) a e g))
@@ -146,13 +153,17 @@ module _ (d : Description) (text : List ℕ) (fill : Fill) (f : List ℕ) (taken
   unfolding madeLength
   header-fits = omega (arith, r .file-long)
 
-  header-long : 346 ≤ headerOf d (length text)
+  header-long : textStart ≤ headerOf d (length text)
   unfolding headerOf
   header-long = omega arith
 
   version-ok : breaks3 (versionOf f) ≡ false
   unfolding breaks3
   version-ok = rw (r .version)
+
+  record-is : recordIn f ≡ madeRecord d (length text) fill
+  unfolding recordIn
+  record-is = rw (r .version, r .description, r .text-length, r .file-long)
 
   passes : breaks11 text ≡ false → Passed f
   passes five = record {
@@ -164,13 +175,9 @@ module _ (d : Description) (text : List ℕ) (fill : Fill) (f : List ℕ) (taken
     };
     long = rw (r .description, r .text-length) header-fits;
     not11 = rw (r .text-length, r .text-is) five;
-    not12 = rw (r .description, r .text-length) no-12;
-    not13 = rw (r .description, r .text-length) no-13;
+    not12 = rw (r .description, record-is) no-12;
+    not13 = rw (r .description, record-is) no-13;
   }
-
-  record-is : recordIn f ≡ recordOf 3 d (length text) (madeLength d (length text) fill)
-  unfolding recordIn
-  record-is = rw (r .version, r .description, r .text-length, r .file-long)
 
 zeroed-read : (d : Description) (text : List ℕ) (fill : Fill) → described d (length text) ≡ Taken → fill ≡ Stored → (e : ℕ) → e < bricksOf d
     → peek (madeFile d text fill) (brickAt d (length text) e) (brickBytesOf d) ≡ replicate (brickBytesOf d) 0
@@ -181,12 +188,13 @@ unfolding MadeOpens
 made-opens d text fill room m b e =
     let c = checked d text fill room e in
     let r = read-made d text fill m (c .is-described) in
+    let i = record-is d text fill (madeFile d text fill) (c .is-described) r in
     record {
       bytes = file-bytes d text fill m b .each;
       long = r .file-long;
       taken = passed-opened (madeFile d text fill) (passes d text fill (madeFile d text fill) (c .is-described) r (c .five));
-      same-record = record-is d text fill (madeFile d text fill) (c .is-described) r;
+      same-record = i;
       same-text = r .text-is;
-      kinds = r .kinds-are;
+      kinds = rw i (r .kinds-are);
       zeroed = zeroed-read d text fill (c .is-described);
     }

@@ -1,4 +1,4 @@
--- A cube that we make opens again, with the same description, text and bricks.
+-- A cube that we make (FORMAT 10.12) opens again, with the same description, text and bricks.
 use mathlib.Core.List.{List, [], _∷_}
 use mathlib.Core.Path.{_≡_, refl}
 use Prim.Native.Nat.{ℕ, _+_, _*_, _<_}
@@ -17,7 +17,8 @@ use Rattle.record.specs.declared.Verdict.the-variants.{Taken}
 use Rattle.checks.specs.Checks.{described, breaks4, breaks5, breaks6, breaks7, breaks8, breaks9, breaks11, zeros, sideOk, sizeOk}
 use Rattle.table.specs.declared.Kind.{Kind}
 use Rattle.table.specs.declared.Kind.the-variants as kind
-use Rattle.opening.specs.Opening.{kindsOf, openVerdict, recordIn}
+use Rattle.table.specs.Entries.{kindIn}
+use Rattle.opening.specs.Opening.{openVerdict, recordIn}
 use Rattle.making.specs.Making.{firstBrick, madeLength, madeFile, makeVerdict}
 use Rattle.making.specs.declared.Fill.{Fill}
 use Rattle.making.specs.declared.Fill.the-variants.{Constant, Stored}
@@ -60,7 +61,7 @@ pub record Opens (d : Description) (text : List ℕ) (fill : Fill) (f : List ℕ
   pub taken : openVerdict f ≡ Taken
   pub same-record : recordIn f ≡ recordOf 3 d (length text) (madeLength d (length text) fill)
   pub same-text : textOf f (length text) ≡ text
-  pub kinds : (e : ℕ) → e < bricksOf d → kindsOf d (length text) f e ≡ madeKind d (length text) fill e
+  pub kinds : (e : ℕ) → e < bricksOf d → kindIn (recordIn f) f e ≡ madeKind d (length text) fill e
   -- every stored brick is zero filled
   pub zeroed : fill ≡ Stored → (e : ℕ) → e < bricksOf d → peek f (brickAt d (length text) e) (brickBytesOf d) ≡ replicate (brickBytesOf d) 0
 

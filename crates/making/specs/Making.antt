@@ -1,4 +1,4 @@
--- Making a cube: version 3, from a description and a lent text.
+-- Making a cube (FORMAT 10.12): version 3, from a description and a lent text.
 use mathlib.Core.Bool.{cond}
 use mathlib.Core.List.{List, [], _∷_, _++_}
 use Prim.Native.Nat.{ℕ, _+_, _-_, _*_, _^_}

@@ -5,6 +5,7 @@ use mathlib.Core.Path.{_≡_}
 use Prim.Native.Nat.{ℕ, _+_, _*_, _^_, _≤_}
 use lib.Dec.{ltb}
 use lib.ListN.{getD, length}
+use Rattle.geometry.specs.Limits.{sizeLimit}
 use Rattle.endian.specs.Bytes.{lows}
 use Rattle.floats.specs.Rules.{finiteBits}
 use Rattle.record.specs.Answers.{refused}
@@ -21,7 +22,7 @@ use Rattle.making.specs.declared.Plan.{Plan}
 -- direction i has a finite inc and an allowed size
 pub record MeasuredIn (d : Description) (i : ℕ) : Type 0 where
   pub inc-finite : finiteBits (getD (d .inc) i 0) ≡ true
-  pub size-small : sizeOf d i ≤ 1048576
+  pub size-small : sizeOf d i ≤ sizeLimit
 
 pub record Measured (d : Description) : Type 0 where
   pub inline : MeasuredIn d 0

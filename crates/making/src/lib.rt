@@ -6,6 +6,7 @@ use checks::check_description;
 use checks::check11;
 use floats::float_of;
 use floats::survey_size;
+use geometry::LONGEST_TEXT;
 use geometry::ceil_div;
 use geometry::header_end;
 use record::Description;
@@ -23,6 +24,7 @@ ghost use Rattle.endian.specs.Loops.{cat};
 ghost use Rattle.endian.specs.Bytes.{lows};
 ghost use Rattle.record.specs.declared.Verdict.the-variants.{Taken};
 ghost use Rattle.checks.specs.Checks.{described};
+ghost use Rattle.geometry.specs.Limits.{longestText};
 ghost use Rattle.text.specs.Text.{Pours};
 ghost use Rattle.making.specs.Making.{zeroBytes, three, storedId, fileHeader, brickFields, idFields, gridFields, currentFields, surveyFields, unitFields, infoHeader, madeFile, makeVerdict, makeAnswer, makeBuffer};
 ghost use Rattle.making.specs.MadeOpens.{MadeOpens};
@@ -283,9 +285,13 @@ fn plan_of(d: Description, text: u32, fill: Fill) -> Plan
 
 // The length of a text as a number of 32 bits; one that is too long is one byte too long.
 fn text_length(n: usize) -> u32
-    ensures { λ r. ⌜ r ≡ min n 65537 ⌝ }
+    ensures { λ r. ⌜ r ≡ min n (longestText + 1) ⌝ }
 {
-    if n < 65537 { n as u32 } else { 65537 }
+    if n <= LONGEST_TEXT as usize {
+        n as u32
+    } else {
+        LONGEST_TEXT + 1
+    }
 }
 
 // Checks 11 and 18.
@@ -329,7 +335,8 @@ fn push_cube(out: &mut [u8], d: Description, text: &[u8], fill: Fill) -> usize
 // Makes a cube at the start of `out`, and answers its length; the bytes after it stay. All checks
 // come before the first byte.
 pub fn make(out: &mut [u8], d: Description, text: &[u8], fill: Fill) -> Done
-    ensures { λ r. ⌜ (r ≡ makeAnswer d (now (text .entry)) fill (length (now (out .entry)))) × (now (out .exit) ≡ makeBuffer d (now (text .entry)) fill (now (out .entry))) ⌝ }
+    ensures answer { λ a. ⌜ a ≡ makeAnswer d (now (text .entry)) fill (length (now (out .entry))) ⌝ }
+    ensures buffer { λ _. ⌜ now (out .exit) ≡ makeBuffer d (now (text .entry)) fill (now (out .entry)) ⌝ }
 {
     let verdict = check_making(d, text, fill, out.len() as u64);
     match verdict {

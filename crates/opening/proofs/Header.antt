@@ -1,71 +1,63 @@
--- What a file owes that passes checks 1 to 9, and its record. Assumes nothing.
-use mathlib.Core.Bool.{false}
+-- What a file owes that passes checks 1 to 9. Assumes nothing.
+use mathlib.Core.Bool.{true, false}
 use mathlib.Core.List.{List}
-use mathlib.Core.Path.{_≡_, refl, ap}
-use Prim.Native.Nat.{ℕ, _+_, _-_, _*_, _≤_}
+use mathlib.Core.Path.{_≡_, refl}
+use Prim.Native.Nat.{ℕ, _+_, _≤_, _<_}
 use native.Mathlib.Omega.{arith}
 use lib.ListN.{length}
-use borrow.Author.Tests.{ltb-false}
+use borrow.Author.Tests.{ltb-false, lt-ltb, le-ltb}
+use Rattle.geometry.specs.Limits.{textStart}
+use Rattle.record.specs.Answers.{refused}
 use Rattle.record.specs.Header.{versionOf, descriptionOf, textLengthOf}
-use Rattle.record.specs.Record.{bricksOf, tableOf, headerOf, recordOf, Sized}
-use Rattle.record.specs.declared.Record.{Record}
+use Rattle.record.specs.Record.{tableOf, recordOf}
+use Rattle.record.specs.declared.Description.{Description}
 use Rattle.record.specs.declared.Verdict.the-variants.{Taken}
-use Rattle.checks.specs.Checks.{breaks2, breaks3, brickLimit}
-use Rattle.checks.proofs.Described.{passed, Described, described-all, described-sized, described-few, described-text}
-use Rattle.opening.specs.Opening.{headerVerdict, recordIn}
+use Rattle.checks.specs.Checks.{breaks2, breaks3, described}
+use Rattle.checks.proofs.Described.{passed, Described, described-all}
+use Rattle.table.specs.Entries.{Derived}
+use Rattle.opening.specs.Opening.{headerVerdict}
 
 -- checks 1 to 9, none of which applies
 pub record Head (f : List ℕ) : Type 0 where
-  pub long : 346 ≤ length f
+  pub long : textStart ≤ length f
   pub not2 : breaks2 f ≡ false
   pub not3 : breaks3 (versionOf f) ≡ false
   pub is-described : Described (descriptionOf f) (textLengthOf f)
 
-pub head : (f : List ℕ) → headerVerdict f ≡ Taken → Head f
-unfolding headerVerdict
-head f e =
-    let a = passed _ _ _ e in
-    let b = passed _ _ _ (a .1) in
-    let c = passed _ _ _ (b .1) in
-    record { long = ltb-false _ _ (a .0); not2 = b .0; not3 = c .0; is-described = described-all _ _ (c .1) }
+module _ (f : List ℕ) where
+  pub head : headerVerdict f ≡ Taken → Head f
+  unfolding headerVerdict
+  head e =
+      let a = passed _ _ _ e in
+      let b = passed _ _ _ (a .1) in
+      let c = passed _ _ _ (b .1) in
+      record { long = ltb-false _ _ (a .0); not2 = b .0; not3 = c .0; is-described = described-all _ _ (c .1) }
 
-module _ (f : List ℕ) (h : Head f) where
-  pub head-sized : Sized (descriptionOf f)
-  head-sized = described-sized _ _ (h .is-described)
+  -- one check after the other
+  pub header-1 : length f < textStart → headerVerdict f ≡ refused 1
+  unfolding headerVerdict
+  header-1 h = simp (lt-ltb _ _ h)
 
-  pub head-few : bricksOf (descriptionOf f) ≤ brickLimit
-  head-few = described-few _ _ (h .is-described)
+  module _ (long : textStart ≤ length f) where
+    pub header-2 : breaks2 f ≡ true → headerVerdict f ≡ refused 2
+    unfolding headerVerdict
+    header-2 e = simp (le-ltb _ _ long, e)
 
-  pub head-text : (5 ≤ textLengthOf f) × (textLengthOf f ≤ 65536)
-  head-text = described-text _ _ (h .is-described)
+    module _ (not2 : breaks2 f ≡ false) where
+      pub header-3 : breaks3 (versionOf f) ≡ true → headerVerdict f ≡ refused 3
+      unfolding headerVerdict
+      header-3 e = simp (le-ltb _ _ long, not2, e)
 
--- the headers end where the brick table does
-pub header-table : (f : List ℕ) → headerOf (descriptionOf f) (textLengthOf f) ≡ tableOf (descriptionOf f) (textLengthOf f) + 8 * bricksOf (descriptionOf f)
-unfolding headerOf tableOf
-header-table f = refl
+      pub header-rest : breaks3 (versionOf f) ≡ false → headerVerdict f ≡ described (descriptionOf f) (textLengthOf f)
+      unfolding headerVerdict
+      header-rest e = simp (le-ltb _ _ long, not2, e)
+
+-- the record that is made of a description is derived
+pub made-derived : (v : ℕ) (d : Description) (t n : ℕ) → described d t ≡ Taken → Derived (recordOf v d t n)
+unfolding recordOf
+made-derived v d t n e = record { passes = e; header-is = refl; bricks-is = refl; alphas-is = refl }
 
 -- the text lies before the brick table
-pub text-before : (f : List ℕ) → 346 + textLengthOf f ≤ tableOf (descriptionOf f) (textLengthOf f)
+pub text-before : (d : Description) (t : ℕ) → textStart + t ≤ tableOf d t
 unfolding tableOf
-text-before f = omega arith
-
--- the fields of a record that is the file's
-module _ (f : List ℕ) (r : Record) (e : r ≡ recordIn f) where
-  pub in-description : r .description ≡ descriptionOf f
-  unfolding recordIn recordOf
-  in-description = ap (λ (x : Record). x .description) e
-
-  pub in-text : r .text ≡ textLengthOf f
-  unfolding recordIn recordOf
-  in-text = ap (λ (x : Record). x .text) e
-
-  pub in-header : r .header ≡ headerOf (descriptionOf f) (textLengthOf f)
-  unfolding recordIn recordOf
-  in-header = ap (λ (x : Record). x .header) e
-
-  pub in-bricks : r .bricks ≡ bricksOf (descriptionOf f)
-  unfolding recordIn recordOf
-  in-bricks = ap (λ (x : Record). x .bricks) e
-
-  pub in-table : r .header - 8 * r .bricks ≡ tableOf (descriptionOf f) (textLengthOf f)
-  in-table = omega (arith, in-header, in-bricks, header-table f)
+text-before d t = omega arith

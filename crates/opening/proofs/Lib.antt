@@ -1,5 +1,5 @@
 -- Laws of opening.
 pub mod Header
-pub mod Entries
 pub mod Answers
 pub mod Rules
+pub mod Same

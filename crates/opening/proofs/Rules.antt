@@ -10,71 +10,85 @@ use lib.Ieee.{binary32, ofBits, lt}
 use lib.ListN.{getD, length, take, length-take, length-drop}
 use lib.Seq.{getD-take}
 use borrow.Author.Tests.{eqb-true, eq-eqb, le-leb, ltb-false, le-ltb}
+use Rattle.record.proofs.Laws.{coding-each}
+use Rattle.geometry.specs.Limits.{sizeLimit, shortestText, longestText, textStart}
+use Rattle.endian.specs.Loops.{first}
 use Rattle.endian.specs.Bytes.{Bytes, le, peek}
+use Rattle.endian.proofs.Search.{first-before}
 use Rattle.endian.proofs.Bytes.{le-bound}
 use Rattle.floats.specs.Rules.{finiteBits, rangeOk}
 use Rattle.floats.proofs.Patterns.{range-finite}
-use Rattle.record.specs.Answers.{refused, refusedAt, andThen, unlessFound}
+use Rattle.record.specs.Answers.{refusedAt, andThen, unlessFound}
 use Rattle.record.specs.Types.{codingOf, noType}
 use Rattle.record.specs.Header.{threeAt, twoAt, versionOf, descriptionOf, textLengthOf, textOf}
-use Rattle.record.specs.Record.{sideOf, sizeOf, bricksOf, brickBytesOf, headerOf, recordOf}
+use Rattle.record.specs.Record.{sideOf, sizeOf, bricksOf, headerOf, recordOf}
 use Rattle.record.specs.declared.Description.{Description}
 use Rattle.record.specs.declared.Coding.{Coding}
 use Rattle.record.specs.declared.Verdict.{Verdict}
 use Rattle.record.specs.declared.Verdict.the-variants.{Taken, Refused}
 use Rattle.checks.specs.Checks.{all3, sideOk, sizeOk, brickLimit, zeros, breaks2, breaks3, breaks4, breaks5, breaks6, breaks7, breaks8, breaks9, breaks11}
-use Rattle.checks.proofs.Described.{passed, not-false, both, either, all3-each, each-of, side-each, size-range, described-is}
+use Rattle.checks.proofs.Described.{passed, not-false, both, either, all3-each, each-of, side-exponent, side-is, size-range, described-is, described-few, described-text}
 use Rattle.checks.proofs.Records.{Words, finites, record-fits, fit-with}
-use Rattle.table.proofs.Range.{range-none, range-all, range-le}
-use Rattle.table.proofs.Overlaps.{overlap-none, overlap-all, overlap-le}
-use Rattle.opening.specs.Opening.{kindsOf, entriesVerdict, bodyVerdict, headerVerdict, openVerdict, recordIn}
+use Rattle.table.specs.Entries.{breaks12, breaks13, Derived}
+use Rattle.table.proofs.Search.{missed}
+use Rattle.table.proofs.Tables.{header-table, stored-inside, inside-passes, stored-apart, apart-passes}
+use Rattle.opening.specs.Opening.{lengthVerdict, textVerdict, rangeVerdict, overlapVerdict, entriesVerdict, bodyVerdict}
+use Rattle.opening.specs.Opening.{headerVerdict, openVerdict, recordIn}
 use Rattle.opening.specs.Cube.{Side, Finite, CodingRange, Cube, OpensExactly, RecordPasses}
-use Rattle.opening.proofs.Header.{Head, head, head-few, head-text, header-table, text-before}
-use Rattle.opening.proofs.Entries.{outside, overlapping}
+use Rattle.opening.proofs.Header.{Head, head, text-before, made-derived}
 
 -- a verdict whose first part and whose later part took the call
-both-taken : (v later : Verdict) → andThen v later ≡ Taken → (v ≡ Taken) × (later ≡ Taken)
+pub both-taken : (v later : Verdict) → andThen v later ≡ Taken → (v ≡ Taken) × (later ≡ Taken)
 both-taken Taken later e = (refl, e)
 both-taken (Refused x) later e = let z : _≡_ {A = ℕ} 0 1 = cc in absurd (omega arith)
 
--- nothing was found
-none-found : (n e m : ℕ) (later : Verdict) → unlessFound n e m later ≡ Taken → (m ≤ e) × (later ≡ Taken)
-none-found n e m later h = go (ltb e m) refl h
+-- no entry breaks the check, so the search for one finds none and the later checks took the call
+pub none-found : (n : ℕ) (p : ℕ → Bool) (m : ℕ) (later : Verdict) → unlessFound n (first p m) m later ≡ Taken → ((e : ℕ) → e < m → p e ≡ false) × (later ≡ Taken)
+none-found n p m later h = let q = go (ltb (first p m) m) refl h in (λ e l. first-before p m e (omega (arith, q .0)), q .1)
   where
-    go : (b : Bool) → ltb e m ≡ b → cond b (refusedAt n e) later ≡ Taken → (m ≤ e) × (later ≡ Taken)
+    go : (b : Bool) → ltb (first p m) m ≡ b → cond b (refusedAt n (first p m)) later ≡ Taken → (m ≤ first p m) × (later ≡ Taken)
     go true q t = let z : _≡_ {A = ℕ} 0 1 = cc in absurd (omega arith)
-    go false q t = (ltb-false e m q, t)
+    go false q t = (ltb-false (first p m) m q, t)
+
+pub finds-none : (n : ℕ) (p : ℕ → Bool) (m : ℕ) (later : Verdict) → ((e : ℕ) → e < m → p e ≡ false) → unlessFound n (first p m) m later ≡ later
+finds-none n p m later all = simp (le-ltb (first p m) m (omega (arith, missed p m m refl all)))
 
 -- all of checks 1 to 13, none of which applies
 pub record Passed (f : List ℕ) : Type 0 where
   pub header : Head f
   pub long : headerOf (descriptionOf f) (textLengthOf f) ≤ length f
   pub not11 : breaks11 (textOf f (textLengthOf f)) ≡ false
-  pub not12 : outside f ≡ bricksOf (descriptionOf f)
-  pub not13 : overlapping f ≡ bricksOf (descriptionOf f)
+  pub not12 : (e : ℕ) → e < bricksOf (descriptionOf f) → breaks12 (recordIn f) f e ≡ false
+  pub not13 : (e : ℕ) → e < bricksOf (descriptionOf f) → breaks13 (recordIn f) f e ≡ false
 
 pub opened-passed : (f : List ℕ) → openVerdict f ≡ Taken → Passed f
-unfolding openVerdict bodyVerdict entriesVerdict
+unfolding openVerdict bodyVerdict lengthVerdict textVerdict entriesVerdict rangeVerdict overlapVerdict recordIn recordOf
 opened-passed f e =
-    let a = both-taken (headerVerdict f) (bodyVerdict (descriptionOf f) (textLengthOf f) f) e in
-    let b = passed (ltb (length f) (headerOf (descriptionOf f) (textLengthOf f))) 10 (cond (breaks11 (textOf f (textLengthOf f))) (refused 11) (entriesVerdict (descriptionOf f) (textLengthOf f) f)) (a .1) in
-    let c = passed (breaks11 (textOf f (textLengthOf f))) 11 (entriesVerdict (descriptionOf f) (textLengthOf f) f) (b .1) in
-    let d = none-found 12 (outside f) (bricksOf (descriptionOf f)) (unlessFound 13 (overlapping f) (bricksOf (descriptionOf f)) Taken) (c .1) in
-    let g = none-found 13 (overlapping f) (bricksOf (descriptionOf f)) Taken (d .1) in
+    let r = recordIn f in
+    let a = both-taken (headerVerdict f) (bodyVerdict r f) e in
+    let b = both-taken (lengthVerdict r f) (andThen (textVerdict r f) (entriesVerdict r f)) (a .1) in
+    let c = both-taken (textVerdict r f) (entriesVerdict r f) (b .1) in
+    let d = both-taken (rangeVerdict r f) (overlapVerdict r f) (c .1) in
     record {
       header = head f (a .0);
-      long = ltb-false _ _ (b .0);
-      not11 = c .0;
-      not12 = omega (arith, d .0, range-le (headerOf (descriptionOf f) (textLengthOf f)) (brickBytesOf (descriptionOf f)) (length f) (kindsOf (descriptionOf f) (textLengthOf f) f) (bricksOf (descriptionOf f)));
-      not13 = omega (arith, g .0, overlap-le (brickBytesOf (descriptionOf f)) (kindsOf (descriptionOf f) (textLengthOf f) f) (bricksOf (descriptionOf f)));
+      long = ltb-false _ _ (passed _ _ _ (b .0) .0);
+      not11 = passed _ _ _ (c .0) .0;
+      not12 = none-found 12 (breaks12 r f) (bricksOf (descriptionOf f)) Taken (d .0) .0;
+      not13 = none-found 13 (breaks13 r f) (bricksOf (descriptionOf f)) Taken (d .1) .0;
     }
 
+-- the record of such a file, and that the file holds its headers
+pub passed-derived : (f : List ℕ) → Passed f → Derived (recordIn f) × (headerOf (recordIn f .description) (recordIn f .text) ≤ length f)
+unfolding recordIn recordOf
+passed-derived f p = (made-derived _ _ _ _ (described-is _ _ (p .header .is-described)), p .long)
+
 pub passed-opened : (f : List ℕ) → Passed f → openVerdict f ≡ Taken
-unfolding openVerdict headerVerdict bodyVerdict entriesVerdict
+unfolding openVerdict headerVerdict bodyVerdict lengthVerdict textVerdict entriesVerdict rangeVerdict overlapVerdict recordIn recordOf
 passed-opened f p =
     let h = p .header in
-    let no12 : ltb (outside f) (bricksOf (descriptionOf f)) ≡ false = le-ltb (outside f) (bricksOf (descriptionOf f)) (omega (arith, p .not12)) in
-    let no13 : ltb (overlapping f) (bricksOf (descriptionOf f)) ≡ false = le-ltb (overlapping f) (bricksOf (descriptionOf f)) (omega (arith, p .not13)) in
+    let n = bricksOf (descriptionOf f) in
+    let no12 = finds-none 12 (breaks12 (recordIn f) f) n Taken (p .not12) in
+    let no13 = finds-none 13 (breaks13 (recordIn f) f) n Taken (p .not13) in
     simp (le-ltb _ _ (h .long), h .not2, h .not3, described-is _ _ (h .is-described), le-ltb _ _ (p .long), p .not11, no12, no13)
 
 -- ---- each check and its rule
@@ -97,7 +111,7 @@ four (a ∷ b ∷ []) h = absurd (omega arith)
 four (a ∷ b ∷ c ∷ []) h = absurd (omega arith)
 four (a ∷ b ∷ c ∷ d ∷ f) h = refl
 
-rule2-of : (f : List ℕ) → 346 ≤ length f → breaks2 f ≡ false → peek f 0 4 ≡ (86 ∷ 66 ∷ 83 ∷ 0 ∷ [])
+rule2-of : (f : List ℕ) → textStart ≤ length f → breaks2 f ≡ false → peek f 0 4 ≡ (86 ∷ 66 ∷ 83 ∷ 0 ∷ [])
 unfolding breaks2
 rule2-of f n e =
     let a = both (eqb (getD f 0 0) 86 && eqb (getD f 1 0) 66 && eqb (getD f 2 0) 83) (eqb (getD f 3 0) 0) (not-false _ e) in
@@ -120,14 +134,9 @@ rule3-is : (v : ℕ) → (v ≡ 2) ⊎ (v ≡ 3) → breaks3 v ≡ false
 unfolding breaks3
 rule3-is v = ⊎-elim (λ (e : v ≡ 2). rw e) (λ (e : v ≡ 3). rw e)
 
-side-is : (n : ℕ) → Side n → sideOk n ≡ true
-unfolding sideOk
-side-is n =
-    ⊎-elim (λ (e : n ≡ 4). rw e) (⊎-elim (λ (e : n ≡ 8). rw e) (⊎-elim (λ (e : n ≡ 16). rw e) (⊎-elim (λ (e : n ≡ 32). rw e) (λ (e : n ≡ 64). rw e))))
-
-size-is : (n : ℕ) → (1 ≤ n) × (n ≤ 1048576) → sizeOk n ≡ true
+size-is : (n : ℕ) → (1 ≤ n) × (n ≤ sizeLimit) → sizeOk n ≡ true
 unfolding sizeOk
-size-is n q = simp (le-leb 1 n (q .0), le-leb n 1048576 (q .1))
+size-is n q = simp (le-leb 1 n (q .0), le-leb n sizeLimit (q .1))
 
 range-is : (min max : ℕ) → CodingRange min max → rangeOk min max ≡ true
 unfolding rangeOk
@@ -146,42 +155,36 @@ module _ (d : Description) where
       each-of (λ i. Side (sideOf d i)) (one (s .0)) (one (s .1)) (one (s .2))
     where
       one : {n : ℕ} → sideOk n ≡ true → Side n
-      one {n} = side-each Side (inl refl) (inr (inl refl)) (inr (inr (inl refl))) (inr (inr (inr (inl refl)))) (inr (inr (inr (inr refl)))) n
+      one {n} = side-exponent n
 
   rule4-is : ((i : ℕ) → i < 3 → Side (sideOf d i)) → breaks4 d ≡ false
   unfolding breaks4
   rule4-is h = ap not (all3-of sideOk (d .side) (λ i l. side-is (sideOf d i) (h i l)))
 
   rule5-of : breaks5 d ≡ false → (d .datatype ≡ 0) ⊎ (d .datatype ≡ 2) ⊎ (d .datatype ≡ 6)
-  unfolding breaks5 codingOf
-  rule5-of e = go (eqb (d .datatype) 0) (eqb (d .datatype) 2) (eqb (d .datatype) 6) refl refl refl e
-    where
-      go : (a b c : Bool) → eqb (d .datatype) 0 ≡ a → eqb (d .datatype) 2 ≡ b → eqb (d .datatype) 6 ≡ c
-          → noType (cond a (Coding.Scaled 1 128) (cond b (Coding.Scaled 2 32768) (cond c (Coding.Float32 4) (Coding.NoType (record { number = 5; entry = 0 }))))) ≡ false
-          → (d .datatype ≡ 0) ⊎ (d .datatype ≡ 2) ⊎ (d .datatype ≡ 6)
-      go true b c p q r n = inl (eqb-true (d .datatype) 0 p)
-      go false true c p q r n = inr (inl (eqb-true (d .datatype) 2 q))
-      go false false true p q r n = inr (inr (eqb-true (d .datatype) 6 r))
-      go false false false p q r n = absurd (false≢true (sym n))
+  unfolding breaks5
+  rule5-of =
+      coding-each (λ k x. noType x ≡ false → (k ≡ 0) ⊎ (k ≡ 2) ⊎ (k ≡ 6)) (λ e. inl refl) (λ e. inr (inl refl)) (λ e. inr (inr refl)) (λ k e. absurd (false≢true (sym e)))
+      (d .datatype)
 
   rule5-is : (d .datatype ≡ 0) ⊎ (d .datatype ≡ 2) ⊎ (d .datatype ≡ 6) → breaks5 d ≡ false
   unfolding breaks5 codingOf
   rule5-is = ⊎-elim (λ (e : d .datatype ≡ 0). rw e) (⊎-elim (λ (e : d .datatype ≡ 2). rw e) (λ (e : d .datatype ≡ 6). rw e))
 
-  rule6-of : breaks6 d ≡ false → (i : ℕ) → i < 3 → (1 ≤ sizeOf d i) × (sizeOf d i ≤ 1048576)
+  rule6-of : breaks6 d ≡ false → (i : ℕ) → i < 3 → (1 ≤ sizeOf d i) × (sizeOf d i ≤ sizeLimit)
   unfolding breaks6
   rule6-of e =
       let s = all3-each sizeOk (d .size) (not-false _ e) in
-      each-of (λ i. (1 ≤ sizeOf d i) × (sizeOf d i ≤ 1048576)) (one (s .0)) (one (s .1)) (one (s .2))
+      each-of (λ i. (1 ≤ sizeOf d i) × (sizeOf d i ≤ sizeLimit)) (one (s .0)) (one (s .1)) (one (s .2))
     where
-      one : {n : ℕ} → sizeOk n ≡ true → (1 ≤ n) × (n ≤ 1048576)
+      one : {n : ℕ} → sizeOk n ≡ true → (1 ≤ n) × (n ≤ sizeLimit)
       one {n} q = let r = size-range n q in (r .low, r .high)
 
-  rule6-is : ((i : ℕ) → i < 3 → (1 ≤ sizeOf d i) × (sizeOf d i ≤ 1048576)) → breaks6 d ≡ false
+  rule6-is : ((i : ℕ) → i < 3 → (1 ≤ sizeOf d i) × (sizeOf d i ≤ sizeLimit)) → breaks6 d ≡ false
   unfolding breaks6
   rule6-is h = ap not (all3-of sizeOk (d .size) (λ i l. one (sizeOf d i) (h i l)))
     where
-      one : (n : ℕ) → (1 ≤ n) × (n ≤ 1048576) → sizeOk n ≡ true
+      one : (n : ℕ) → (1 ≤ n) × (n ≤ sizeLimit) → sizeOk n ≡ true
       one n q = size-is n q
 
   rule7-of : breaks7 d ≡ false → ((i : ℕ) → i < 3 → Finite (getD (d .orig) i 0) × Finite (getD (d .inc) i 0))
@@ -203,14 +206,14 @@ module _ (d : Description) where
       coded : (eqb (d .datatype) 6 || rangeOk (getD (d .range) 0 0) (getD (d .range) 1 0)) ≡ true
       coded = ⊎-elim (λ (e : d .datatype ≡ 6). rw e) (λ (r : CodingRange (getD (d .range) 0 0) (getD (d .range) 1 0)). or-right (eqb (d .datatype) 6) (rangeOk (getD (d .range) 0 0) (getD (d .range) 1 0)) (range-is (getD (d .range) 0 0) (getD (d .range) 1 0) r)) c
 
-rule9-is : (n : ℕ) → (5 ≤ n) × (n ≤ 65536) → breaks9 n ≡ false
+rule9-is : (n : ℕ) → (shortestText ≤ n) × (n ≤ longestText) → breaks9 n ≡ false
 unfolding breaks9
-rule9-is n q = simp (le-leb 5 n (q .0), le-leb n 65536 (q .1))
+rule9-is n q = simp (le-leb shortestText n (q .0), le-leb n longestText (q .1))
 
 module _ (f : List ℕ) where
   -- the text section is as long as its length says
   text-long : headerOf (descriptionOf f) (textLengthOf f) ≤ length f → length (textOf f (textLengthOf f)) ≡ textLengthOf f
-  text-long h = simp (length-take, length-drop) (omega (arith, header-table f, text-before f))
+  text-long h = simp (length-take, length-drop) (omega (arith, header-table (descriptionOf f) (textLengthOf f), text-before (descriptionOf f) (textLengthOf f)))
 
   rule11-of : headerOf (descriptionOf f) (textLengthOf f) ≤ length f → breaks11 (textOf f (textLengthOf f)) ≡ false
       → (zeros (textOf f (textLengthOf f)) ≡ 5) × (getD (textOf f (textLengthOf f)) (textLengthOf f - 1) 0 ≡ 0)
@@ -229,6 +232,7 @@ module _ (f : List ℕ) where
       simp (eq-eqb _ _ (q .0), eq-eqb _ _ last)
 
   passed-cube : Passed f → Cube f
+  unfolding recordIn recordOf
   passed-cube p =
       let h = p .header in
       let d = descriptionOf f in
@@ -241,16 +245,16 @@ module _ (f : List ℕ) where
         rule5 = rule5-of d (q .not5);
         rule6 = rule6-of d (q .not6);
         rule7 = rule7-of d (q .not7);
-        rule8 = head-few f h;
-        rule9 = head-text f h;
+        rule8 = described-few _ _ q;
+        rule9 = described-text _ _ q;
         rule10 = p .long;
         rule11 = rule11-of (p .long) (p .not11);
-        rule12 = λ e o l k. range-none _ _ _ _ _ (p .not12) e l o k;
-        rule13 = λ a b o u l m. overlap-none _ _ _ (p .not13) a b l m o u;
+        rule12 = λ e o l. stored-inside (recordIn f) f e (p .not12 e l) o;
+        rule13 = λ a e o u l m. stored-apart (recordIn f) f e (p .not13 e m) a o u l;
       }
 
   cube-passed : Cube f → Passed f
-  unfolding breaks8
+  unfolding breaks8 recordIn recordOf
   cube-passed c =
       let d = descriptionOf f in
       record {
@@ -269,8 +273,8 @@ module _ (f : List ℕ) where
         };
         long = c .rule10;
         not11 = rule11-is (c .rule10) (c .rule11);
-        not12 = range-all _ _ _ _ _ (λ e l o k. c .rule12 e o l k);
-        not13 = overlap-all _ _ _ (λ a b l m o u. c .rule13 a b o u l m);
+        not12 = λ e l. inside-passes (recordIn f) f e (λ o. c .rule12 e o l);
+        not13 = λ e l. apart-passes (recordIn f) f e (λ a o u m. c .rule13 a e o u m l);
       }
 
 -- the fields of a file of bytes fit 32 bits

@@ -4,9 +4,9 @@ use checks::check2;
 use checks::check3;
 use checks::check11;
 use endian::u32_at;
+use geometry::TEXT_START;
 use record::Record;
 use record::Verdict;
-use record::brick_bytes_in;
 use record::description_at;
 use record::no_record;
 use record::record_of;
@@ -14,10 +14,13 @@ use record::refuse;
 use record::refuse_at;
 use table::lowest_out_of_range;
 use table::lowest_overlap;
+use table::table_in;
 ghost use mathlib.Core.Path.{_≡_};
+ghost use Prim.Native.Nat.{_≤_};
 ghost use lib.ListN.{length};
-ghost use Rattle.record.specs.Header.{descriptionOf, textLengthOf};
-ghost use Rattle.opening.specs.Opening.{entriesVerdict, bodyVerdict, headerVerdict, openedOf, Headed, Bodied};
+ghost use Rattle.record.specs.Record.{headerOf};
+ghost use Rattle.table.specs.Entries.{Derived};
+ghost use Rattle.opening.specs.Opening.{entriesVerdict, bodyVerdict, openedBy, openedOf};
 ghost use Rattle.opening.specs.Cube.{OpensExactly, RecordPasses};
 
 // What opening answers. A verdict that refuses stands beside a record of zeros.
@@ -26,37 +29,18 @@ pub struct Opened {
     pub cube: Record,
 }
 
-// Checks 1 to 9.
-fn check_header(file: &[u8]) -> Verdict
-    ensures { λ v. ⌜ v ≡ headerVerdict (now (file .entry)) ⌝ }
-{
-    if file.len() < 346 {
-        return refuse(1);
-    }
-    if check2(file) {
-        return refuse(2);
-    }
-    if check3(u32_at(file, 4)) {
-        return refuse(3);
-    }
-    check_description(description_at(file), u32_at(file, 342))
-}
-
 // Checks 12 and 13, over all entries of the brick table.
 fn check_entries(file: &[u8], r: Record) -> Verdict
-    requires { ⌜ Bodied (now file) r ⌝ }
-    ensures { λ v. ⌜ v ≡ entriesVerdict (descriptionOf (now (file .entry))) (textLengthOf (now (file .entry))) (now (file .entry)) ⌝ }
+    requires { ⌜ Derived r × (headerOf (r .description) (r .text) ≤ length (now file)) ⌝ }
+    ensures { λ v. ⌜ v ≡ entriesVerdict r (now (file .entry)) ⌝ }
 {
-    let d = r.description;
-    let brick = brick_bytes_in(d);
-    let header = r.header;
-    let count = r.bricks as usize;
-    let table = header as usize - 8 * count;
-    let outside = lowest_out_of_range(file, table, count, header, brick);
+    let t = table_in(r);
+    let count = t.count;
+    let outside = lowest_out_of_range(file, t);
     if outside < count {
         return refuse_at(12, outside as u32);
     }
-    let overlapping = lowest_overlap(file, table, count, header, brick);
+    let overlapping = lowest_overlap(file, t);
     if overlapping < count {
         return refuse_at(13, overlapping as u32);
     }
@@ -65,8 +49,8 @@ fn check_entries(file: &[u8], r: Record) -> Verdict
 
 // Checks 10 to 13.
 fn check_body(file: &[u8], r: Record) -> Verdict
-    requires { ⌜ Headed (now file) r ⌝ }
-    ensures { λ v. ⌜ v ≡ bodyVerdict (descriptionOf (now (file .entry))) (textLengthOf (now (file .entry))) (now (file .entry)) ⌝ }
+    requires { ⌜ Derived r ⌝ }
+    ensures { λ v. ⌜ v ≡ bodyVerdict r (now (file .entry)) ⌝ }
 {
     let header = r.header;
     let length = file.len() as u64;
@@ -74,19 +58,17 @@ fn check_body(file: &[u8], r: Record) -> Verdict
         return refuse(10);
     }
     let text = r.text as usize;
-    let end = 346 + text;
-    if check11(&file[346..end]) {
+    let end = TEXT_START + text;
+    if check11(&file[TEXT_START..end]) {
         return refuse(11);
     }
     check_entries(file, r)
 }
 
-// The answer for a file that passes checks 1 to 9, with its record.
-fn open_body(file: &[u8], r: Record) -> Opened
-    requires { ⌜ Headed (now file) r ⌝ }
-    ensures { λ o. ⌜ o ≡ openedOf (now (file .entry)) ⌝ }
+// The answer by its verdict: a refusal stands beside a record of zeros.
+fn answer(verdict: Verdict, r: Record) -> Opened
+    ensures { λ o. ⌜ o ≡ openedBy verdict r ⌝ }
 {
-    let verdict = check_body(file, r);
     match verdict {
         Verdict::Refused(_) => Opened {
             verdict,
@@ -100,25 +82,29 @@ fn open_body(file: &[u8], r: Record) -> Opened
 pub fn open(file: &[u8]) -> Opened
     ensures { λ o. ⌜ o ≡ openedOf (now (file .entry)) ⌝ }
 {
-    let verdict = check_header(file);
+    if file.len() < TEXT_START {
+        return answer(refuse(1), no_record());
+    }
+    if check2(file) {
+        return answer(refuse(2), no_record());
+    }
+    let version = u32_at(file, 4);
+    if check3(version) {
+        return answer(refuse(3), no_record());
+    }
+    let d = description_at(file);
+    let text = u32_at(file, 342);
+    let verdict = check_description(d, text);
     match verdict {
-        Verdict::Refused(_) => Opened {
-            verdict,
-            cube: no_record(),
-        },
-        Verdict::Taken => open_body(
-            file,
-            record_of(
-                u32_at(file, 4),
-                description_at(file),
-                u32_at(file, 342),
-                file.len() as u64,
-            ),
-        ),
+        Verdict::Refused(_) => answer(verdict, no_record()),
+        Verdict::Taken => {
+            let r = record_of(version, d, text, file.len() as u64);
+            answer(check_body(file, r), r)
+        }
     }
 }
 
-// A file is taken exactly when it is a cube by the format's rules and the build paper's limits.
+// A file is taken exactly when it is a cube by the rules and limits of FORMAT 9.
 pub fn opens_exactly()
     ensures { λ _. ⌜ OpensExactly ⌝ }
 {}

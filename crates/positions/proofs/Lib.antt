@@ -1,2 +1,2 @@
 -- Laws of position.
-pub mod Verdicts
+pub mod Answers

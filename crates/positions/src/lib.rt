@@ -3,7 +3,7 @@ use checks::check14;
 use record::Record;
 use record::Refusal;
 ghost use mathlib.Core.Path.{_≡_};
-ghost use Rattle.positions.specs.Positions.{positionAnswer, PositionNear};
+ghost use Rattle.positions.specs.Positions.{refusedBy, positionAnswer, PositionNear};
 
 // What position answers.
 pub enum Located {
@@ -12,7 +12,7 @@ pub enum Located {
 }
 
 fn refuse(number: u32) -> Located
-    ensures { λ a. ⌜ a ≡ Located.Refused (record { number = number; entry = 0 }) ⌝ }
+    ensures { λ a. ⌜ a ≡ refusedBy number ⌝ }
 {
     Located::Refused(Refusal { number, entry: 0 })
 }
@@ -20,7 +20,7 @@ fn refuse(number: u32) -> Located
 // Orig and inc are the grid's; that they are finite is part of check 14.
 pub fn position(r: Record, dimension: u32, index: u32) -> Located
     ensures answer { λ a. ⌜ a ≡ positionAnswer r dimension index ⌝ }
-    ensures near { λ a. ⌜ PositionNear r dimension index ⌝ }
+    ensures near { λ a. ⌜ PositionNear r dimension index a ⌝ }
 {
     if check14(r) {
         return refuse(14);

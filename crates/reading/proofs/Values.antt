@@ -1,11 +1,9 @@
 -- A value's low bytes, one after the other. Assumes nothing.
 use Prim.Native.Nat.{ℕ, zero, suc, _+_, _/_, _%_, _^_}
-use mathlib.Core.Path.{_≡_, refl, ap, sym, _∙_}
+use mathlib.Core.Path.{_≡_, ap, sym, _∙_}
 use mathlib.Core.List.{List, [], _∷_, _++_}
 use native.Mathlib.Nat.{mul-comm, div-one, div-div-eq-div-mul, pow-suc}
 use native.Mathlib.Numerals.{add-one}
-use lib.ListN.{replicate, replicate-append-replicate}
-use Rattle.endian.specs.Loops.{cat}
 use Rattle.endian.specs.Bytes.{lows}
 
 -- one byte more
@@ -22,9 +20,3 @@ lows-more t v = rw add-one (lows-suc t v)
 -- what is left of the value after one byte more
 pub value-more : (t v : ℕ) → v / 256 ^ t / 256 ≡ v / 256 ^ (t + 1)
 value-more t v = rw (div-div-eq-div-mul, add-one, pow-suc)
-
--- zeros, byte by byte
-pub zeros : (n : ℕ) → cat n (λ t. lows 1 0) ≡ replicate n 0
-unfolding cat lows
-zeros zero = refl
-zeros (suc n) = ap (λ (l : List ℕ). l ++ (0 ∷ [])) (zeros n) ∙ replicate-append-replicate n 1 0 ∙ ap (λ (m : ℕ). replicate m 0) (add-one n)

@@ -1,7 +1,6 @@
--- The items of one brick, as bytes, and a box of a region that holds its samples.
+-- For the private functions of reading alone: the items of one brick, as bytes, and a box of a region that holds its samples.
 use mathlib.Core.List.{List}
 use Prim.Native.Nat.{ℕ, _+_, _*_}
-use lib.ListN.{replicate}
 use Rattle.endian.specs.Loops.{cat}
 use Rattle.endian.specs.Bytes.{peek, lows}
 use Rattle.record.specs.declared.Record.{Record}
@@ -12,11 +11,11 @@ use Rattle.cube.specs.Places.{itemBytes, rowsOf, rawOf}
 use Rattle.cube.specs.Regions.{runOf, place}
 use Rattle.runs.specs.Boxes.{Boxed}
 
--- n items of w bytes from item m on: zeros of a missing brick, a constant's value again and again, a part of the file of a stored one
-abbrev pub itemsOf : List ℕ → ℕ → Kind → ℕ → ℕ → List ℕ
-itemsOf f w Missing m n = replicate (n * w) 0
-itemsOf f w (Constant v) m n = cat n (λ t. lows w v)
-itemsOf f w (Stored o) m n = peek f (o + m * w) (n * w)
+-- n items of w bytes from item m on: the value of a missing or a constant brick again and again, a part of the file of a stored one
+abbrev pub itemsOf : List ℕ → ℕ → ℕ → Kind → ℕ → ℕ → List ℕ
+itemsOf f w missing Missing m n = cat n (λ t. lows w missing)
+itemsOf f w missing (Constant v) m n = cat n (λ t. lows w v)
+itemsOf f w missing (Stored o) m n = peek f (o + m * w) (n * w)
 
 -- new is old, but that a box of the region holds its samples' bytes
 abbrev pub RawBox : Record → List ℕ → Region → ℕ → ℕ → ℕ → ℕ → ℕ → ℕ → List ℕ → List ℕ → Type 0

@@ -1,6 +1,7 @@
 // Raw reads: the bytes of a region's samples, vertical fastest and inline slowest, into the front of a lent buffer.
 // The region is read brick by brick: one entry is looked up for each brick that it touches, and of each brick a box is copied,
 // row by row. So the work grows with the region alone.
+use cube::MissingBrick;
 use cube::Region;
 use endian::copy;
 use record::Done;
@@ -15,17 +16,18 @@ use runs::kind_on;
 use runs::lattice_of;
 use runs::left;
 use table::Kind;
+ghost use mathlib.Core.List.{[], _∷_};
 ghost use mathlib.Core.Path.{_≡_};
 ghost use Prim.Native.Nat.{ℕ, _+_, _*_, _≤_, _<_};
 ghost use lib.ListN.{length};
 ghost use Rattle.endian.specs.Loops.{cat};
 ghost use Rattle.endian.specs.Bytes.{lows};
-ghost use Rattle.table.specs.Windows.{Width};
+ghost use Rattle.table.specs.Entries.{Width};
 ghost use Rattle.table.specs.declared.Kind.the-variants.{Stored};
 ghost use Rattle.record.specs.declared.Verdict.the-variants.{Taken};
 ghost use Rattle.cube.specs.Places.{itemBytes, rowsOf, kindIn, brickOf, itemNo};
-ghost use Rattle.record.specs.Answers.{doneOf};
-ghost use Rattle.cube.specs.Regions.{runOf, place, sizeOf, rawRows, rawVerdict, after, over};
+ghost use Rattle.cube.specs.Calls.{rawRead, raw, answerOf, buffersAfter};
+ghost use Rattle.cube.specs.Regions.{runOf, place, sizeOf, rawRows, rawVerdict, over};
 ghost use Rattle.runs.specs.Runs.{Ready};
 ghost use Rattle.runs.specs.Boxes.{Along};
 ghost use Rattle.reading.specs.Items.{itemsOf, RawBox};
@@ -69,14 +71,22 @@ fn fill_items(out: &mut [u8], value: u32, n: usize, w: usize)
     }
 }
 
-// n items of a brick of this kind, from this item on. A missing brick reads as storage zero.
-fn read_items(out: &mut [u8], file: &[u8], kind: Kind, item: usize, n: usize, w: usize)
+// n items of a brick of this kind, from this item on; a missing one reads as it does.
+fn read_items(
+    out: &mut [u8],
+    file: &[u8],
+    missing: MissingBrick,
+    kind: Kind,
+    item: usize,
+    n: usize,
+    w: usize,
+)
     requires { ⌜ Width w × (length (now out) ≡ n * w) ⌝ }
     requires { ⌜ ((o : ℕ) → kind ≡ Stored o → o + (item + n) * w ≤ length (now file)) ⌝ }
-    ensures { λ _. ⌜ now (out .exit) ≡ itemsOf (now (file .entry)) w kind item n ⌝ }
+    ensures { λ _. ⌜ now (out .exit) ≡ itemsOf (now (file .entry)) w (missing .value) kind item n ⌝ }
 {
     match kind {
-        Kind::Missing => fill(out, 0, n * w, 1),
+        Kind::Missing => fill_items(out, missing.value, n, w),
         Kind::Constant(value) => fill_items(out, value, n, w),
         Kind::Stored(offset) => {
             let p = offset as usize + item * w;
@@ -111,7 +121,15 @@ fn read_rows(
     for t in 0..nj {
         let a = ((i * q.count1 + (j + t)) * q.count2 + k) * w;
         let e = a + nk * w;
-        read_items(&mut out[a..e], file, kind, item + t * q.side2, nk, w);
+        read_items(
+            &mut out[a..e],
+            file,
+            q.missing,
+            kind,
+            item + t * q.side2,
+            nk,
+            w,
+        );
     }
 }
 
@@ -140,7 +158,7 @@ fn read_plane(
         let n = nj * nk;
         let a = (i * q.count1 + j) * nk * w;
         let e = a + n * w;
-        read_items(&mut out[a..e], file, kind, item, n, w);
+        read_items(&mut out[a..e], file, q.missing, kind, item, n, w);
     } else {
         read_rows(out, file, r, g, q, kind, item, i, j, k, nj, nk);
     }
@@ -199,7 +217,15 @@ fn read_lines(
     for t in 0..ni {
         let a = (((i + t) * q.count1 + j) * q.count2 + k) * w;
         let e = a + nk * w;
-        read_items(&mut out[a..e], file, kind, item + t * plane, nk, w);
+        read_items(
+            &mut out[a..e],
+            file,
+            q.missing,
+            kind,
+            item + t * plane,
+            nk,
+            w,
+        );
     }
 }
 
@@ -323,8 +349,8 @@ fn read_region(out: &mut [u8], file: &[u8], r: Record, g: Region) -> usize
 
 // Reads a region of samples as bytes. A refused call changes nothing.
 pub fn read_raw(out: &mut [u8], file: &[u8], r: Record, g: Region) -> Done
-    ensures answer { λ a. ⌜ a ≡ doneOf (rawVerdict r (now (file .entry)) g (length (now (out .entry)))) (sizeOf g * itemBytes r) ⌝ }
-    ensures buffer { λ _. ⌜ now (out .exit) ≡ after (rawVerdict r (now (file .entry)) g (length (now (out .entry)))) (over (rawRows r (rowsOf r (now (file .entry))) g) (now (out .entry))) (now (out .entry)) ⌝ }
+    ensures answer { λ a. ⌜ a ≡ answerOf r (now (file .entry)) (rawRead g (now (out .entry))) ⌝ }
+    ensures buffer { λ _. ⌜ raw (now (out .exit)) ∷ [] ≡ buffersAfter r (now (file .entry)) (rawRead g (now (out .entry))) ⌝ }
 {
     let verdict = raw_verdict(file, r, g, out.len());
     match verdict {

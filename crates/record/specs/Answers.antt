@@ -1,4 +1,4 @@
--- A call's verdict: the paper's number and second number for each of its cases.
+-- A call's verdict: the number of FORMAT 9.2 and the second number of 9.3 for each of its cases.
 use mathlib.Core.Bool.{Bool, true, false, cond}
 use Prim.Native.Nat.{ℕ}
 use lib.Dec.{ltb}

@@ -1,8 +1,9 @@
--- The header's fields, as the build paper's table has them. An offset in the table is one inside InfoHeader, which starts at byte 9.
+-- The header's fields, as the table of FORMAT 3.1 has them. An offset in the table is one inside InfoHeader, which starts at byte 9.
 use mathlib.Core.List.{List, [], _∷_}
 use Prim.Native.Nat.{ℕ, _+_}
 use lib.ListN.{getD}
 use Rattle.endian.specs.Bytes.{le, peek}
+use Rattle.geometry.specs.Limits.{textStart}
 use Rattle.record.specs.declared.Description.{Description}
 
 -- three numbers of 32 bits from place a on, and two
@@ -51,4 +52,4 @@ textLengthOf f = le 4 f (9 + 333)
 
 -- the text section of n bytes
 abbrev pub textOf : List ℕ → ℕ → List ℕ
-textOf f n = peek f 346 n
+textOf f n = peek f textStart n

@@ -1,4 +1,4 @@
--- The record that opening gives: the description with what follows from it.
+-- The record that opening gives (FORMAT 10.2): the description with what follows from it.
 use mathlib.Core.Bool.{cond}
 use mathlib.Core.List.{List, [], _∷_}
 use Prim.Native.Nat.{ℕ}

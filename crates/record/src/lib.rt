@@ -10,6 +10,7 @@ use geometry::shape_of;
 ghost use mathlib.Core.Path.{_≡_};
 ghost use Prim.Native.Nat.{_+_, _≤_};
 ghost use lib.ListN.{length};
+ghost use Rattle.geometry.specs.Limits.{textStart, longestText, bytesRoom, brickRoom};
 ghost use Rattle.geometry.specs.Geometry.{shapeOf};
 ghost use Rattle.record.specs.Answers.{refused, refusedAt};
 ghost use Rattle.record.specs.Types.{codingOf, widthOf};
@@ -171,7 +172,7 @@ fn id_at(file: &[u8], at: usize) -> [u8; 16]
 
 // The description in a header. Offsets are those of the format's table, 9 bytes on.
 pub fn description_at(file: &[u8]) -> Description
-    requires { ⌜ 346 ≤ length (now file) ⌝ }
+    requires { ⌜ textStart ≤ length (now file) ⌝ }
     ensures { λ r. ⌜ r ≡ descriptionOf (now (file .entry)) ⌝ }
 {
     let side = three_at(file, 9);
@@ -245,7 +246,7 @@ pub fn shape_in(d: Description) -> Shape
 
 pub fn brick_bytes_in(d: Description) -> u64
     requires { ⌜ Sized d ⌝ }
-    ensures { λ r. ⌜ (r ≡ brickBytesOf d) × (r ≤ 67108864) ⌝ }
+    ensures { λ r. ⌜ (r ≡ brickBytesOf d) × (r ≤ bytesRoom) ⌝ }
 {
     let side = d.side;
     brick_bytes(
@@ -258,7 +259,7 @@ pub fn brick_bytes_in(d: Description) -> u64
 
 // The record of a cube with this description, a text of text bytes and length bytes in all.
 pub fn record_of(version: u32, d: Description, text: u32, length: u64) -> Record
-    requires { ⌜ Sized d × (bricksOf d ≤ 1048576) × (text ≤ 65536) ⌝ }
+    requires { ⌜ Sized d × (bricksOf d ≤ brickRoom) × (text ≤ longestText) ⌝ }
     ensures { λ r. ⌜ r ≡ recordOf version d text length ⌝ }
 {
     let grid = grid_of(d);

@@ -1,6 +1,6 @@
 -- The first that passes in a list of parts, as the loops search it. Assumes nothing.
-use mathlib.Core.Bool.{Bool, true, false}
-use mathlib.Core.List.{List, [], _∷_}
+use mathlib.Core.Bool.{Bool, true, false, cond}
+use mathlib.Core.List.{List, [], _∷_, _++_}
 use mathlib.Core.Logic.{⊎-elim}
 use mathlib.Core.Option.{Option, none, some}
 use mathlib.Core.Path.{_≡_, refl, sym, ap, _∙_}
@@ -9,11 +9,33 @@ use native.Mathlib.Nat.{eq-or-lt-of-le, not-suc-le-zero, le-of-suc-le-suc}
 use native.Mathlib.Numerals.{add-one}
 use native.Mathlib.Omega.{arith}
 use Rattle.endian.specs.Loops.{cat}
-use Rattle.cube.specs.Regions.{find}
-use Rattle.cube.proofs.Find.{orElse, find-append, find-one, find-not}
 use Rattle.regions.specs.declared.Found.{Found}
 use Rattle.regions.specs.declared.Found.the-variants.{At, Nothing}
-use Rattle.regions.specs.Search.{foundOf, rowFrom}
+use Rattle.regions.specs.Search.{find, foundOf, rowFrom}
+
+-- the first of two finds
+abbrev orElse : {A : Type 0} → Option A → Option A → Option A
+orElse none b = b
+orElse (some a) b = some a
+
+-- what is found in a list of parts
+find-append : (t : ℕ → Bool) (a b : List ℕ) → find t (a ++ b) ≡ orElse (find t a) (find t b)
+unfolding find
+find-append t [] b = refl
+find-append t (x ∷ xs) b = go (t x) (find-append t xs b)
+  where
+    go : (c : Bool) → find t (xs ++ b) ≡ orElse (find t xs) (find t b) → cond c (some x) (find t (xs ++ b)) ≡ orElse (cond c (some x) (find t xs)) (find t b)
+    go true ih = refl
+    go false ih = ih
+
+-- one number that passes, one that does not
+find-one : (t : ℕ → Bool) (x : ℕ) → t x ≡ true → find t (x ∷ []) ≡ some x
+unfolding find
+find-one t x e = rw e
+
+find-not : (t : ℕ → Bool) (x : ℕ) → t x ≡ false → find t (x ∷ []) ≡ none
+unfolding find
+find-not t x e = rw e
 
 module _ (t : ℕ → Bool) where
   module _ (g : ℕ → List ℕ) where

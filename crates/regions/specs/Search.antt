@@ -1,29 +1,30 @@
--- The entries that a region touches, as a block of entry numbers, and the search over them for checks 12 and 19.
-use mathlib.Core.Bool.{Bool, true, not, _&&_, cond}
+-- For the private functions of regions alone: the entries that a region touches as a block of entry numbers, and the search over them for
+-- checks 12 and 19.
+use mathlib.Core.Bool.{Bool, true, not, cond}
 use mathlib.Core.List.{List, [], _∷_}
 use mathlib.Core.Option.{Option, none, some}
 use mathlib.Core.Path.{_≡_}
 use Prim.Native.Nat.{ℕ, suc, _+_, _-_, _*_, _/_, _≤_, _<_}
-use lib.ListN.{length}
 use Rattle.endian.specs.Loops.{cat}
-use Rattle.record.specs.Types.{widthOf}
-use Rattle.record.specs.Record.{sideOf, bricksAlong, bricksOf, brickBytesOf, tableOf, headerOf}
+use Rattle.record.specs.Record.{sideOf, bricksAlong}
 use Rattle.record.specs.declared.Record.{Record}
 use Rattle.record.specs.declared.Verdict.{Verdict}
 use Rattle.record.specs.declared.Verdict.the-variants.{Taken}
 use Rattle.checks.specs.Fits.{recordFits}
-use Rattle.table.specs.Entries.{kindAt, outOfRange}
-use Rattle.table.specs.Windows.{Width}
-use Rattle.table.specs.declared.Kind.{Kind}
-use Rattle.table.specs.declared.Kind.the-variants.{Missing, Constant, Stored}
+use Rattle.table.specs.Entries.{kindAt, outsideAt}
+use Rattle.table.specs.declared.Table.{Table}
 use Rattle.cube.specs.declared.Region.{Region}
 use Rattle.cube.specs.Places.{entryIn}
-use Rattle.cube.specs.Regions.{startOf, runOf, inExtent, span, touched, notStored, find, unlessIn}
+use Rattle.cube.specs.Regions.{startOf, runOf, inExtent, touches, unlessTouched, isStored, notStored}
 use Rattle.regions.specs.declared.Found.{Found}
 use Rattle.regions.specs.declared.Found.the-variants.{At, Nothing}
-use Rattle.regions.specs.declared.Entries.{Entries}
 use Rattle.regions.specs.declared.Along.{Along}
 use Rattle.regions.specs.declared.Block.{Block}
+
+-- the first of a list that passes
+unfoldable pub find : (ℕ → Bool) → List ℕ → Option ℕ
+find t [] = none
+find t (x ∷ xs) = cond (t x) (some x) (find t xs)
 
 -- what a search says of the entry that it found
 abbrev pub foundOf : Option ℕ → Found
@@ -32,32 +33,9 @@ foundOf (some e) = At e
 
 -- ---- one entry
 
--- a cube's brick table, with what its entries are judged by
-unfoldable pub entriesOf : Record → Entries
-entriesOf r = record {
-  start = tableOf (r .description) (r .text);
-  count = bricksOf (r .description);
-  header = headerOf (r .description) (r .text);
-  brick = brickBytesOf (r .description);
-  width = widthOf (r .description .datatype);
-}
-
--- a brick fails: check 19 wants a stored one, check 12 wants a stored one in the file
-abbrev pub failing : Bool → Entries → ℕ → Kind → Bool
-failing stored t n Missing = stored
-failing stored t n (Constant v) = stored
-failing stored t n (Stored o) = not stored && outOfRange (t .header) (t .brick) n (Stored o)
-
--- entry e fails
-unfoldable pub fails : Bool → Entries → List ℕ → ℕ → Bool
-fails stored t f e = failing stored t (length f) (kindAt (t .width) f (t .start) e)
-
--- the table lies in a file of n bytes, and no sum over it wraps
-pub record Readable (t : Entries) (n : ℕ) : Type 0 where
-  pub within : t .start + 8 * t .count ≤ n
-  pub few : t .count ≤ 16384
-  pub item : Width (t .width)
-  pub small : t .brick ≤ 67108864
+-- entry e fails: check 19 wants a stored brick, check 12 one that is not out of range
+unfoldable pub fails : Bool → Table → List ℕ → ℕ → Bool
+fails stored t f e = cond stored (not (isStored (kindAt t f e))) (outsideAt t f e)
 
 -- ---- blocks of entries
 
@@ -82,17 +60,21 @@ Below b n = (z : ℕ) → z < b .vertical → (b .first + z * b .layer ≤ n) ×
 
 -- ---- the block of a region
 
--- the bricks of side s that a run touches: the first, and how many
+-- how many bricks of side s a run from a, c long, touches
+abbrev pub span : ℕ → ℕ → ℕ → ℕ
+span s a c = suc ((a + c - 1) / s - a / s)
+
+-- the first of them, and how many
 abbrev pub alongOf : ℕ → ℕ → ℕ → Along
-alongOf s a c = record { first = a / s; span = suc ((a + c - 1) / s - a / s) }
+alongOf s a c = record { first = a / s; span = span s a c }
 
 -- the entries that a region touches
 unfoldable pub blockOf : Record → Region → Block
 blockOf r g = record {
   first = entryIn r (g .level) (startOf g 0 / sideOf (r .description) 0) (startOf g 1 / sideOf (r .description) 1) (startOf g 2 / sideOf (r .description) 2);
-  inline = span r (sideOf (r .description) 0) (startOf g 0) (runOf g 0);
-  crossline = span r (sideOf (r .description) 1) (startOf g 1) (runOf g 1);
-  vertical = span r (sideOf (r .description) 2) (startOf g 2) (runOf g 2);
+  inline = span (sideOf (r .description) 0) (startOf g 0) (runOf g 0);
+  crossline = span (sideOf (r .description) 1) (startOf g 1) (runOf g 1);
+  vertical = span (sideOf (r .description) 2) (startOf g 2) (runOf g 2);
   row = bricksAlong (r .description) (g .level) 0;
   layer = bricksAlong (r .description) (g .level) 0 * bricksAlong (r .description) (g .level) 1;
 }
@@ -105,4 +87,4 @@ pub record Passed (r : Record) (g : Region) : Type 0 where
 
 -- what is judged after check 12: check 19 for a write, nothing for a read
 abbrev pub rest : Bool → Record → List ℕ → Region → Verdict
-rest write r f g = cond write (unlessIn 19 (find (notStored r f) (touched r g)) Taken) Taken
+rest write r f g = cond write (unlessTouched r 19 (touches r g) (notStored r f) Taken) Taken

@@ -1,13 +1,11 @@
-// The checks of a call on a region, in the build paper's order: 14, 15, 16, 18, 12 over the touched entries, then 19 for writes.
+// The checks of a call on a region, in the order of FORMAT 10.1: 14, 15, 16, 18, 12 over the touched entries, then 19 for writes.
 // All are done before a byte moves. Their cost grows with the bricks that the region touches, never with the cube.
 use checks::check14_with;
 use cube::Region;
 use geometry::entry_at;
 use geometry::extent_at;
-use geometry::table_start;
 use record::Record;
 use record::Verdict;
-use record::brick_bytes_in;
 use record::refuse;
 use record::refuse_at;
 use record::width_of;
@@ -15,35 +13,28 @@ use runs::index;
 use runs::level_in;
 use runs::over;
 use table::Kind;
+use table::Table;
 use table::kind_at;
+use table::out_of_range;
+use table::table_in;
 ghost use mathlib.Core.Path.{_≡_};
 ghost use mathlib.Core.Bool.{true, _&&_};
 ghost use Prim.Native.Nat.{_+_, _*_, _≤_, _<_};
 ghost use lib.Dec.{leb};
 ghost use lib.ListN.{length};
+ghost use Rattle.geometry.specs.Limits.{sizeLimit, levelCap};
 ghost use Rattle.geometry.specs.Geometry.{extent};
 ghost use Rattle.runs.specs.Runs.{Allowed};
 ghost use Rattle.checks.specs.Checks.{sideOk};
 ghost use Rattle.checks.specs.Fits.{recordFits};
-ghost use Rattle.table.specs.Entries.{outOfRange};
-ghost use Rattle.table.specs.declared.Kind.the-variants.{Stored};
-ghost use Rattle.cube.specs.Regions.{sizeOf, inExtent, touched, badRange, find, unlessIn, regionVerdict, rawVerdict, floatVerdict, writeVerdict};
-ghost use Rattle.regions.specs.Search.{foundOf, entriesOf, fails, Readable, rowFrom, layerFrom, entriesIn, LayerBelow, Below, alongOf, blockOf, Passed, rest};
+ghost use Rattle.table.specs.Entries.{breaks12, Readable};
+ghost use Rattle.cube.specs.Regions.{sizeOf, inExtent, touches, unlessTouched, isStored, regionVerdict, rawVerdict, floatVerdict, writeVerdict};
+ghost use Rattle.regions.specs.Search.{find, foundOf, fails, rowFrom, layerFrom, entriesIn, LayerBelow, Below, alongOf, blockOf, Passed, rest};
 
 // What a search over entries finds: the first that fails, or none.
 enum Found {
     At(u32),
     Nothing,
-}
-
-// The brick table, with what an entry is judged by: where it starts and how many entries it has, where the headers end,
-// and the bytes of a brick and of an item.
-struct Entries {
-    start: u64,
-    count: u64,
-    header: u64,
-    brick: u64,
-    width: u32,
 }
 
 // The bricks that a run of samples touches in a direction.
@@ -71,7 +62,7 @@ fn wide(x: u32) -> u64
 
 // A run has a sample and lies in the level's extent. A start and a count of 32 bits each are added in 64.
 fn run_inside(start: u32, count: u32, size: u32, level: u32) -> bool
-    requires { ⌜ (1 ≤ size) × (level ≤ 20) ⌝ }
+    requires { ⌜ (1 ≤ size) × (level ≤ levelCap) ⌝ }
     ensures { λ b. ⌜ b ≡ leb 1 count && leb (start + count) (extent size level) ⌝ }
 {
     (1 <= count) & (wide(start) + wide(count) <= extent_at(size, wide(level)))
@@ -93,7 +84,7 @@ fn in_extent(r: Record, g: Region) -> bool
 
 // The room that a by b by c samples take, of `item` each.
 fn room_for(a: u32, b: u32, c: u32, item: u32) -> u64
-    requires { ⌜ (a ≤ 1048576) × (b ≤ 1048576) × (c ≤ 1048576) × (item ≤ 4) ⌝ }
+    requires { ⌜ (a ≤ sizeLimit) × (b ≤ sizeLimit) × (c ≤ sizeLimit) × (item ≤ 4) ⌝ }
     ensures { λ n. ⌜ n ≡ a * b * c * item ⌝ }
 {
     wide(a) * wide(b) * wide(c) * wide(item)
@@ -106,21 +97,6 @@ fn needed(r: Record, g: Region, item: u32) -> u64
 {
     let count = g.count;
     room_for(count[0], count[1], count[2], item)
-}
-
-// The brick table of a record that passed check 14.
-fn entries_of(r: Record) -> Entries
-    requires { ⌜ recordFits r ≡ true ⌝ }
-    ensures { λ t. ⌜ (t ≡ entriesOf r) × Readable t (r .length) ⌝ }
-{
-    let d = r.description;
-    Entries {
-        start: table_start(wide(r.text), wide(r.alphas)),
-        count: wide(r.bricks),
-        header: r.header,
-        brick: brick_bytes_in(d),
-        width: width_of(d.datatype),
-    }
 }
 
 // The bricks of this side that a run touches.
@@ -160,29 +136,29 @@ fn block_of(r: Record, g: Region) -> Block
     }
 }
 
-// Check 12 of a stored brick, in a file that is `end` bytes long.
-fn outside(offset: u64, header: u64, brick: u64, end: u64) -> bool
-    requires { ⌜ offset + brick ≤ 18446744073709551615 ⌝ }
-    ensures { λ b. ⌜ b ≡ outOfRange header brick end (Stored offset) ⌝ }
+fn is_stored(kind: Kind) -> bool
+    ensures { λ b. ⌜ b ≡ isStored kind ⌝ }
 {
-    !((header <= offset) & (offset + brick <= end))
-}
-
-// An entry fails check 19, or check 12.
-fn entry_fails(file: &[u8], t: Entries, entry: u64, stored: bool) -> bool
-    requires { ⌜ Readable t (length (now file)) × (entry < t .count) ⌝ }
-    ensures { λ b. ⌜ b ≡ fails stored t (now (file .entry)) entry ⌝ }
-{
-    let kind = kind_at(file, t.start as usize, entry as usize, t.width);
     match kind {
-        Kind::Missing => stored,
-        Kind::Constant(_) => stored,
-        Kind::Stored(offset) => !stored & outside(offset, t.header, t.brick, file.len() as u64),
+        Kind::Missing => false,
+        Kind::Constant(_) => false,
+        Kind::Stored(_) => true,
     }
 }
 
+// An entry fails check 19, or check 12.
+fn entry_fails(file: &[u8], t: Table, entry: u64, stored: bool) -> bool
+    requires { ⌜ Readable t (length (now file)) × (entry < t .count) ⌝ }
+    ensures { λ b. ⌜ b ≡ fails stored t (now (file .entry)) entry ⌝ }
+{
+    if stored {
+        return !is_stored(kind_at(file, t, entry as usize));
+    }
+    out_of_range(file, t, entry as usize)
+}
+
 // The first entry that fails, of a row along inline from this entry on.
-fn search_row(file: &[u8], t: Entries, from: u64, count: u64, stored: bool) -> Found
+fn search_row(file: &[u8], t: Table, from: u64, count: u64, stored: bool) -> Found
     requires { ⌜ Readable t (length (now file)) × (from + count ≤ t .count) ⌝ }
     ensures { λ found. ⌜ found ≡ foundOf (find (fails stored t (now (file .entry))) (rowFrom from count)) ⌝ }
 {
@@ -197,7 +173,7 @@ fn search_row(file: &[u8], t: Entries, from: u64, count: u64, stored: bool) -> F
 }
 
 // The first that fails of the rows of a layer, one after the other crossline.
-fn search_layer(file: &[u8], t: Entries, b: Block, from: u64, stored: bool) -> Found
+fn search_layer(file: &[u8], t: Table, b: Block, from: u64, stored: bool) -> Found
     requires { ⌜ Readable t (length (now file)) × (from ≤ t .count) × LayerBelow b from (t .count) ⌝ }
     ensures { λ found. ⌜ found ≡ foundOf (find (fails stored t (now (file .entry))) (layerFrom b from)) ⌝ }
 {
@@ -213,7 +189,7 @@ fn search_layer(file: &[u8], t: Entries, b: Block, from: u64, stored: bool) -> F
 }
 
 // The first that fails of the layers of a block, one after the other vertical.
-fn search(file: &[u8], t: Entries, b: Block, stored: bool) -> Found
+fn search(file: &[u8], t: Table, b: Block, stored: bool) -> Found
     requires { ⌜ Readable t (length (now file)) × Below b (t .count) ⌝ }
     ensures { λ found. ⌜ found ≡ foundOf (find (fails stored t (now (file .entry))) (entriesIn b)) ⌝ }
 {
@@ -231,9 +207,9 @@ fn search(file: &[u8], t: Entries, b: Block, stored: bool) -> Found
 // Checks 12 and, for a write, 19 over the touched entries.
 fn check_entries(file: &[u8], r: Record, g: Region, write: bool) -> Verdict
     requires { ⌜ Passed r g × (r .length ≡ length (now file)) ⌝ }
-    ensures { λ v. ⌜ v ≡ unlessIn 12 (find (badRange r (now (file .entry))) (touched r g)) (rest write r (now (file .entry)) g) ⌝ }
+    ensures { λ v. ⌜ v ≡ unlessTouched r 12 (touches r g) (breaks12 r (now (file .entry))) (rest write r (now (file .entry)) g) ⌝ }
 {
-    let t = entries_of(r);
+    let t = table_in(r);
     let b = block_of(r, g);
     let bad = search(file, t, b, false);
     if let Found::At(entry) = bad {

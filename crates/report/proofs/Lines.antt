@@ -13,8 +13,10 @@ use Rattle.record.specs.declared.Record.{Record}
 use Rattle.record.specs.declared.Refusal.{Refusal}
 use Rattle.record.specs.declared.Verdict.the-variants.{Taken, Refused}
 use Rattle.table.specs.declared.Kind.{Kind}
+use Rattle.table.specs.declared.Table.{Table}
+use Rattle.table.specs.Entries.{kindAt, tableIn, kindIn, Derived}
 use Rattle.opening.specs.Opening.{openVerdict, recordIn}
-use Rattle.report.specs.Listing.{refusedLine, entryLine, kindIn, entryLines, cubeLines, longest, listingOf}
+use Rattle.report.specs.Listing.{refusedLine, entryLine, entryLines, cubeLines, longest, listingOf}
 
 -- a slice keeps its length
 pub pours-length : {d : List ℕ} {a : ℕ} {bs out : List ℕ} {at : ℕ} → Pours d a bs out at → length out ≡ length d
@@ -32,13 +34,22 @@ pub pours-on : {d : List ℕ} {a : ℕ} {bs out : List ℕ} {at : ℕ} → Pours
 pours-on p = poured-none _ _ (omega (arith, p .place, pours-length p))
 
 -- no entries, and an entry more
-pub entries-none : (f : List ℕ) (r : Record) → entryLines f r 0 ≡ []
-unfolding cat
-entries-none f r = refl
+module _ (datatype : ℕ) (kinds : ℕ → Kind) where
+  pub entries-none : entryLines datatype kinds 0 ≡ []
+  unfolding cat
+  entries-none = refl
 
-pub entries-more : (f : List ℕ) (r : Record) (n : ℕ) {k : Kind} {d : List ℕ} {a : ℕ} {out : List ℕ} {at : ℕ} {out′ : List ℕ} {at′ : ℕ} → k ≡ kindIn f r n → Pours d a (entryLines f r n) out at → Pours out at (entryLine (r .description .datatype) n k) out′ at′ → Pours d a (entryLines f r (n + 1)) out′ at′
-unfolding cat
-entries-more f r n e p q = rw (add-one, ← e) (poured-step p q)
+  pub entries-more : (n : ℕ) {k : Kind} {d : List ℕ} {a : ℕ} {out : List ℕ} {at : ℕ} {out′ : List ℕ} {at′ : ℕ}
+      → k ≡ kinds n → Pours d a (entryLines datatype kinds n) out at → Pours out at (entryLine datatype n k) out′ at′
+      → Pours d a (entryLines datatype kinds (n + 1)) out′ at′
+  unfolding cat
+  entries-more n e p q = rw (add-one, ← e) (poured-step p q)
+
+-- all entries of the record's table
+pub entries-all : (r : Record) (t : Table) (f : List ℕ) (n : ℕ) → Derived r → t ≡ tableIn r → n ≡ t .count
+    → entryLines (r .description .datatype) (kindAt t f) n ≡ entryLines (r .description .datatype) (kindIn r f) (r .bricks)
+unfolding kindIn tableIn
+entries-all r t f n h is-t is-n = rw (is-n, is-t, h .bricks-is)
 
 module _ (f : List ℕ) where
   pub list-long : longest < length f → listingOf f ≡ bytesOf "too long\n"

@@ -1,4 +1,4 @@
--- What the listing says of a file, in bytes of text.
+-- What the listing says of a file (FORMAT 14), in bytes of text.
 use mathlib.Core.Bool.{cond}
 use mathlib.Core.List.{List, [], _∷_, _++_}
 use mathlib.Core.Path.{_≡_, refl}
@@ -6,6 +6,7 @@ use Prim.Native.Nat.{ℕ}
 use lib.Dec.{ltb}
 use lib.ListN.{getD, length}
 use Rattle.endian.specs.Loops.{cat}
+use Rattle.floats.specs.Rules.{signedOf}
 use Rattle.text.specs.Text.{bytesOf, digits, decimal, signedDecimal}
 use Rattle.record.specs.Types.{codingOf}
 use Rattle.record.specs.declared.Coding.{Coding}
@@ -16,7 +17,8 @@ use Rattle.record.specs.declared.Verdict.{Verdict}
 use Rattle.record.specs.declared.Verdict.the-variants.{Taken, Refused}
 use Rattle.table.specs.declared.Kind.{Kind}
 use Rattle.table.specs.declared.Kind.the-variants.{Missing, Constant, Stored}
-use Rattle.opening.specs.Opening.{kindsOf, openVerdict, recordIn}
+use Rattle.table.specs.Entries.{kindIn}
+use Rattle.opening.specs.Opening.{openVerdict, recordIn}
 
 -- a space, and the end of a line
 abbrev pub space : List ℕ
@@ -54,7 +56,7 @@ headerLines r =
 
 -- a constant, from the unsigned number of its bytes: the signed storage value; for floats the 32 bits as an unsigned number
 abbrev pub constantBy : Coding → ℕ → List ℕ
-constantBy (Scaled w h) n = signedDecimal h n
+constantBy (Scaled w h) n = signedDecimal (signedOf h n)
 constantBy (Float32 w) n = decimal n
 constantBy (NoType x) n = decimal n
 
@@ -71,17 +73,13 @@ kindText datatype (Stored o) = numbered (bytesOf " stored ") o
 unfoldable pub entryLine : ℕ → ℕ → Kind → List ℕ
 entryLine datatype e k = numbered (bytesOf "entry ") e ++ kindText datatype k ++ newline
 
--- what entry e of a file with record r names
-abbrev pub kindIn : List ℕ → Record → ℕ → Kind
-kindIn f r = kindsOf (r .description) (r .text) f
-
--- the lines of the first n entries
-abbrev pub entryLines : List ℕ → Record → ℕ → List ℕ
-entryLines f r n = cat n (λ e. entryLine (r .description .datatype) e (kindIn f r e))
+-- the lines of the first n entries, which name these kinds
+abbrev pub entryLines : ℕ → (ℕ → Kind) → ℕ → List ℕ
+entryLines datatype kinds n = cat n (λ e. entryLine datatype e (kinds e))
 
 -- the listing of a file that opened with record r
 unfoldable pub cubeLines : List ℕ → Record → List ℕ
-cubeLines f r = headerLines r ++ entryLines f r (r .bricks)
+cubeLines f r = headerLines r ++ entryLines (r .description .datatype) (kindIn r f) (r .bricks)
 
 -- the listing by opening's verdict
 abbrev pub linesBy : Verdict → List ℕ → List ℕ

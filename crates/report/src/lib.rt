@@ -7,17 +7,19 @@ use record::Record;
 use record::Refusal;
 use record::Verdict;
 use record::coding_of;
-use record::width_of;
 use table::Kind;
 use table::kind_at;
+use table::table_in;
 use text::push_bytes;
 use text::push_decimal;
 use text::push_signed;
-ghost use mathlib.Core.Path.{_≡_};
-ghost use Prim.Native.Nat.{_<_};
+ghost use Prim.Native.Nat.{_≤_};
+ghost use lib.ListN.{length};
 ghost use Rattle.text.specs.Text.{Pours};
-ghost use Rattle.opening.specs.Opening.{Bodied};
-ghost use Rattle.report.specs.Listing.{numbered, numberLine, threeLine, refusedLine, headerLines, constantText, kindText, entryLine, kindIn, cubeLines, listingOf};
+ghost use Rattle.record.specs.Record.{headerOf};
+ghost use Rattle.table.specs.Entries.{Derived};
+ghost use Rattle.report.specs.Listing.{numbered, numberLine, threeLine, refusedLine, headerLines, constantText, kindText, entryLine};
+ghost use Rattle.report.specs.Listing.{cubeLines, listingOf};
 
 // The most bytes that a listed file has.
 const LONGEST: usize = 65536;
@@ -106,28 +108,18 @@ fn entry_line(out: &mut [u8], at: usize, entry: usize, datatype: u8, kind: Kind)
     push_bytes(out, shown, b"\n")
 }
 
-// What an entry of a file names, by the file's record.
-fn kind_in(file: &[u8], r: Record, entry: usize) -> Kind
-    requires { ⌜ Bodied (now file) r ⌝ }
-    requires { ⌜ entry < r .bricks ⌝ }
-    ensures { λ k. ⌜ k ≡ kindIn (now (file .entry)) r entry ⌝ }
-{
-    let d = r.description;
-    let table = r.header as usize - 8 * r.bricks as usize;
-    kind_at(file, table, entry, width_of(d.datatype))
-}
-
 // The listing of a file that opened with this record.
 fn cube_lines(out: &mut [u8], file: &[u8], r: Record) -> usize
-    requires { ⌜ Bodied (now file) r ⌝ }
+    requires { ⌜ Derived r × (headerOf (r .description) (r .text) ≤ length (now file)) ⌝ }
     ensures { λ n. ⌜ Pours (now (out .entry)) 0 (cubeLines (now (file .entry)) r) (now (out .exit)) n ⌝ }
 {
     let d = r.description;
-    let count = r.bricks as usize;
+    let t = table_in(r);
+    let count = t.count;
     let mut at = header_lines(out, r);
     let mut entry = 0;
     while entry < count {
-        let kind = kind_in(file, r, entry);
+        let kind = kind_at(file, t, entry);
         at = entry_line(out, at, entry, d.datatype, kind);
         entry += 1;
     }

@@ -12,6 +12,7 @@ use lib.ListN.{length, take, drop, length-drop, take-append-drop}
 use lib.Seq.{length-take-le, take-all, take-add, drop-drop, drop-at, take-append-le, drop-append-le}
 use borrow.Author.Tests.{ltb-true, leb-true, lt-ltb, le-leb}
 use borrow.Rule.Slice.PartMut.{putMid, mid-len, same-len-mid, drop-put}
+use Rattle.cube.proofs.Writes.{between-true}
 use Rattle.endian.specs.Loops.{cat, tri}
 use Rattle.endian.proofs.Digits.{tri-inj, next-item}
 use Rattle.endian.proofs.Cats.{cat-same, length-cat, cat-cat, cat-part}
@@ -29,9 +30,6 @@ use Rattle.runs.specs.Boxes.{Along, inBox, itemAt, Boxed}
 -- ---- growing
 
 -- a run from a, c long, has x, or has it not
-between-true : (a c x : ℕ) → between a c x ≡ true → (a ≤ x) × (x < a + c)
-between-true a c x e = let h = both (leb a x) (ltb x (a + c)) e in (leb-true a x (h .0), ltb-true x (a + c) (h .1))
-
 between-yes : (a c x : ℕ) → a ≤ x → x < a + c → between a c x ≡ true
 between-yes a c x h k = simp (le-leb a x h, lt-ltb x (a + c) k)
 

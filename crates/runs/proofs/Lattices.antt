@@ -6,21 +6,24 @@ use mathlib.Core.List.{List}
 use native.Mathlib.Omega.{arith}
 use native.Mathlib.Nat.{mod-lt, mul-le-mul, le-trans, lt-of-lt-of-le, le-mul-of-pos-right}
 use lib.ListN.{length}
+use Rattle.geometry.specs.Limits.{countRoom, sideRoom, brickLimit}
 use Rattle.endian.specs.Loops.{tri}
-use Rattle.geometry.specs.Geometry.{entryAt, tableStart}
+use Rattle.geometry.specs.Geometry.{entryAt}
 use Rattle.geometry.specs.declared.Level.{Level}
 use Rattle.geometry.proofs.Levels.{half-le}
 use Rattle.geometry.proofs.Entries.{entry-is}
-use Rattle.record.specs.Record.{sideOf, countOf, bricksAlong, levelsOf, bricksOf, tableOf, headerOf, Sized}
+use Rattle.record.specs.Record.{sideOf, countOf, bricksAlong, levelsOf, bricksOf, Sized}
 use Rattle.record.specs.declared.Record.{Record}
-use Rattle.record.proofs.Laws.{small, levels-few, alphas-few}
+use Rattle.record.proofs.Laws.{small, levels-few}
 use Rattle.checks.specs.Checks.{sideOk}
-use Rattle.checks.proofs.Described.{side-range, described-sides, described-sized, described-few, described-text, described-width}
+use Rattle.checks.proofs.Described.{side-range, described-sides, described-sized, described-few}
 use Rattle.checks.proofs.Records.{Fit, fits-all}
-use Rattle.table.specs.Entries.{kindAt}
-use Rattle.table.specs.Windows.{Width}
+use Rattle.table.specs.Entries.{kindAt, tableIn, Readable}
+use Rattle.table.specs.declared.Table.{Table}
+use Rattle.table.proofs.Tables.{fits-derived, count-is, readable, kind-is}
 use Rattle.cube.specs.declared.Region.{Region}
-use Rattle.cube.specs.Places.{itemBytes, kindIn, entryIn, brickOf, itemNo, Inside}
+use Rattle.cube.specs.declared.MissingBrick.{MissingBrick}
+use Rattle.cube.specs.Places.{itemBytes, kindIn, entryIn, brickOf, itemNo, Inside, missingBrick}
 use Rattle.cube.specs.Regions.{startOf, runOf, place}
 use Rattle.cube.proofs.Places.{brick-of, brick-lt, item-lt}
 use Rattle.runs.specs.declared.Lattice.{Lattice}
@@ -49,16 +52,16 @@ pub record Numbers (q : Lattice) (i j k : ℕ) : Type 0 where
   pub ok0 : sideOk (q .side0) ≡ true
   pub ok1 : sideOk (q .side1) ≡ true
   pub ok2 : sideOk (q .side2) ≡ true
-  pub at0 : q .start0 + i < 67108864
-  pub at1 : q .start1 + j < 67108864
-  pub at2 : q .start2 + k < 67108864
+  pub at0 : q .start0 + i < countRoom * sideRoom
+  pub at1 : q .start1 + j < countRoom * sideRoom
+  pub at2 : q .start2 + k < countRoom * sideRoom
   pub inline : (q .start0 + i) / q .side0 < q .level .inline
-  pub entry : entryAt (q .level) ((q .start0 + i) / q .side0) ((q .start1 + j) / q .side1) ((q .start2 + k) / q .side2) < 16384
+  pub entry : entryAt (q .level) ((q .start0 + i) / q .side0) ((q .start1 + j) / q .side1) ((q .start2 + k) / q .side2) < brickLimit
   pub item : Parts (q .side1) (q .side2) ((q .start0 + i) % q .side0) ((q .start1 + j) % q .side1) ((q .start2 + k) % q .side2)
   pub items : tri (q .side1) (q .side2) ((q .start0 + i) % q .side0) ((q .start1 + j) % q .side1) ((q .start2 + k) % q .side2) < 16777216
 
 -- an index among n bricks of side s
-index-small : (s n x : ℕ) → s ≤ 256 → n ≤ 262144 → x < n * s → x < 67108864
+index-small : (s n x : ℕ) → s ≤ sideRoom → n ≤ countRoom → x < n * s → x < countRoom * sideRoom
 index-small s n x hs hn h = lt-of-lt-of-le h (mul-le-mul hn hs)
 
 module _ (r : Record) (g : Region) (i j k : ℕ) where
@@ -69,7 +72,7 @@ module _ (r : Record) (g : Region) (i j k : ℕ) where
   entry-on = sym (entry-is (countOf (r .description) 0) (countOf (r .description) 1) (countOf (r .description) 2) (g .level) _ _ _)
 
   module _ (ok : Fit r) (h : Inside r (place g i j k)) where
-    few : brickOf r (place g i j k) < 16384
+    few : brickOf r (place g i j k) < brickLimit
     few = omega (arith, brick-lt r ok (place g i j k) h, described-few _ _ (ok .is-described))
 
     items-few : itemNo r (place g i j k) < 16777216
@@ -122,23 +125,19 @@ module _ (r : Record) (g : Region) (q : Lattice) (i j k : ℕ) (p : Placed r g q
   unfolding latticeOf
   left-made = ap (λ (x : Lattice). x .side2 - (x .start2 + k) % x .side2) (p .laid)
 
-  -- the entry lies in the table, which lies in the file
-  pub entry-in : (n e : ℕ) → r .length ≡ n → e ≡ brickOf r (place g i j k) → q .table + 8 * e + 8 ≤ n
-  unfolding latticeOf headerOf tableOf
-  entry-in n e l b =
-      let t : q .table ≡ tableOf (r .description) (r .text) = ap (λ (x : Lattice). x .table) (p .laid) in
-      omega (arith, t, fit-of .long, fit-of .header-is, brick-lt r fit-of (place g i j k) (p .inside))
-
-  pub width-made : q .width ≡ itemBytes r
+  -- the entry is one of the table, which can be read in a file of the record's length
+  table-is : q .table ≡ tableIn r
   unfolding latticeOf
-  width-made = ap (λ (x : Lattice). x .width) (p .laid)
+  table-is = ap (λ (x : Lattice). x .table) (p .laid)
 
-  pub width-ok : Width (q .width)
-  width-ok = rw width-made (described-width _ _ (fit-of .is-described))
+  pub entry-in : (n e : ℕ) → r .length ≡ n → e ≡ brickOf r (place g i j k) → Readable (q .table) n × (e < q .table .count)
+  entry-in n e l b = (
+    readable r _ table-is (fits-derived r (p .fitting)) n (omega (arith, fit-of .long, fit-of .header-is)),
+    omega (arith, brick-lt r fit-of (place g i j k) (p .inside), count-is r _ table-is),
+  )
 
-  pub kind-made : (f : List ℕ) (e : ℕ) → e ≡ brickOf r (place g i j k) → kindAt (q .width) f (q .table) e ≡ kindIn r f (brickOf r (place g i j k))
-  unfolding latticeOf kindIn
-  kind-made f e b = ap (λ (x : Lattice). kindAt (x .width) f (x .table) e) (p .laid) ∙ ap (kindIn r f) b
+  pub kind-made : (f : List ℕ) (e : ℕ) → e ≡ brickOf r (place g i j k) → kindAt (q .table) f e ≡ kindIn r f (brickOf r (place g i j k))
+  kind-made f e b = kind-is r _ table-is f e ∙ ap (kindIn r f) b
 
 -- ---- making a lattice
 
@@ -157,18 +156,8 @@ module _ (r : Record) (g : Region) (h : Allowed r g) where
   pub level-few : g .level ≤ 20
   level-few = omega (arith, level-asks .2, levels-few (r .description) allowed-sized)
 
-  pub table-small : (r .text ≤ 65536) × (r .alphas ≤ 1048576)
-  table-small = (
-    described-text _ _ (allowed-fit .is-described) .1,
-    omega (arith, alphas-few (r .description) allowed-sized, described-few _ _ (allowed-fit .is-described), allowed-fit .alphas-is),
-  )
-
-  pub table-made : (t x y : ℕ) → t ≡ tableStart x y → x ≡ r .text → y ≡ r .alphas → t ≡ latticeOf r g .table
-  unfolding latticeOf tableOf
-  table-made t x y e ex ey = e ∙ rw (ex, ey, allowed-fit .alphas-is)
-
-  pub lattice-made : (v : Level) (t s0 s1 s2 w a0 a1 a2 n0 n1 n2 : ℕ) → v ≡ levelIn (r .description) (g .level) → t ≡ latticeOf r g .table
-      → s0 ≡ sideOf (r .description) 0 → s1 ≡ sideOf (r .description) 1 → s2 ≡ sideOf (r .description) 2 → w ≡ itemBytes r
+  pub lattice-made : (t : Table) (v : Level) (x : MissingBrick) (s0 s1 s2 w a0 a1 a2 n0 n1 n2 : ℕ) → t ≡ tableIn r → v ≡ levelIn (r .description) (g .level)
+      → s0 ≡ sideOf (r .description) 0 → s1 ≡ sideOf (r .description) 1 → s2 ≡ sideOf (r .description) 2 → w ≡ itemBytes r → x ≡ missingBrick r
       → a0 ≡ startOf g 0 → a1 ≡ startOf g 1 → a2 ≡ startOf g 2 → n0 ≡ runOf g 0 → n1 ≡ runOf g 1 → n2 ≡ runOf g 2
       → record {
         table = t;
@@ -177,6 +166,7 @@ module _ (r : Record) (g : Region) (h : Allowed r g) where
         side1 = s1;
         side2 = s2;
         width = w;
+        missing = x;
         start0 = a0;
         start1 = a1;
         start2 = a2;
@@ -185,5 +175,5 @@ module _ (r : Record) (g : Region) (h : Allowed r g) where
         count2 = n2;
       } ≡ latticeOf r g
   unfolding latticeOf
-  lattice-made v t s0 s1 s2 w a0 a1 a2 n0 n1 n2 ev et e0 e1 e2 ew f0 f1 f2 m0 m1 m2 =
-      rw (ev, et, e0, e1, e2, ew, f0, f1, f2, m0, m1, m2)
+  lattice-made t v x s0 s1 s2 w a0 a1 a2 n0 n1 n2 et ev e0 e1 e2 ew ex f0 f1 f2 m0 m1 m2 =
+      rw (et, ev, e0, e1, e2, ew, ex, f0, f1, f2, m0, m1, m2)

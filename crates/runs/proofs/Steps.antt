@@ -12,9 +12,9 @@ use Rattle.record.specs.Record.{sideOf, sizeOf, brickBytesOf}
 use Rattle.record.specs.declared.Record.{Record}
 use Rattle.checks.proofs.Described.{described-sized, described-width}
 use Rattle.checks.proofs.Records.{Fit, fits-all, fits-is}
-use Rattle.table.specs.Windows.{Width}
+use Rattle.table.specs.Entries.{Width}
 use Rattle.cube.specs.declared.Region.{Region}
-use Rattle.cube.specs.Places.{itemBytes, brickOf, itemNo}
+use Rattle.cube.specs.Places.{itemBytes, brickOf, itemNo, missingBrick}
 use Rattle.cube.specs.Regions.{startOf, runOf, place}
 use Rattle.cube.proofs.Valid.{brickLength}
 use Rattle.cube.proofs.Places.{sides, brick-lt}
@@ -65,6 +65,10 @@ module _ (r : Record) (f : List ℕ) (g : Region) (q : Lattice) (h : Ready r f g
   unfolding latticeOf
   ready-width = ap (λ (x : Lattice). x .width) (h .laid)
 
+  pub ready-missing : q .missing ≡ missingBrick r
+  unfolding latticeOf
+  ready-missing = ap (λ (x : Lattice). x .missing) (h .laid)
+
   pub width-of : Width (itemBytes r)
   width-of = described-width _ _ (ready-fit .is-described)
 
@@ -108,7 +112,3 @@ step-fits r g i j t n c o ok s =
     let a : x * s1 + y < sideOf (r .description) 0 * s1 = digits-lt (mod-lt (startOf g 0 + i) (sides r ok .0)) (mod-lt (startOf g 1 + j) (sides r ok .1)) in
     let b : (x * s1 + y) * s2 + (startOf g 2 + t) % s2 + c ≤ sideOf (r .description) 0 * s1 * s2 = omega (arith, next-item s2 (x * s1 + y) (sideOf (r .description) 0 * s1) a, s .brick) in
     omega (arith, mul-le-mul-right (itemBytes r) b)
-
--- c items after t of n, each of w bytes, in a run that has room for n
-pub items-room : (t c n w room : ℕ) → t + c ≤ n → n * w ≤ room → t * w + c * w ≤ room
-items-room t c n w room h l = omega (arith, mul-le-mul-right w h)

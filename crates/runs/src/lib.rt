@@ -1,15 +1,18 @@
 // Vertical runs: where the samples of a region lie in the bricks of its level. Raw reads, float reads and writes share this.
 // A record and a region that stand beside a lattice are what its promises are stated in; the code works with the lattice alone.
+use cube::MissingBrick;
 use cube::Region;
+use cube::missing_brick;
 use geometry::Level;
 use geometry::entry_at;
 use geometry::level_of;
-use geometry::table_start;
 use record::Description;
 use record::Record;
 use record::width_of;
 use table::Kind;
+use table::Table;
 use table::kind_at;
+use table::table_in;
 ghost use mathlib.Core.Path.{_≡_};
 ghost use mathlib.Core.Bool.{true};
 ghost use Prim.Native.Nat.{_+_, _-_, _/_, _%_, _<_, _≤_, min};
@@ -22,14 +25,15 @@ ghost use Rattle.runs.specs.Runs.{levelIn, latticeOf, Allowed, Placed};
 
 // A region among the bricks of its level, worked out once for a call.
 pub struct Lattice {
-    // Where the brick table starts, and what numbers the bricks of the level.
-    pub table: usize,
+    // The brick table, and what numbers the bricks of the level.
+    pub table: Table,
     pub level: Level,
-    // The sides of a brick, and the bytes of an item.
+    // The sides of a brick, the bytes of an item, and what a missing brick reads as.
     pub side0: usize,
     pub side1: usize,
     pub side2: usize,
     pub width: u32,
+    pub missing: MissingBrick,
     // Where the region starts, and how many samples it has.
     pub start0: usize,
     pub start1: usize,
@@ -80,12 +84,13 @@ pub fn lattice_of(r: Record, g: Region) -> Lattice
     let count = g.count;
     let level = level_in(d, r.bricks, g.level);
     Lattice {
-        table: table_start(wide(r.text), wide(r.alphas)) as usize,
+        table: table_in(r),
         level,
         side0: index(side[0]),
         side1: index(side[1]),
         side2: index(side[2]),
         width: width_of(d.datatype),
+        missing: missing_brick(r),
         start0: index(start[0]),
         start1: index(start[1]),
         start2: index(start[2]),
@@ -120,7 +125,7 @@ pub fn kind_on(file: &[u8], r: Record, g: Region, q: Lattice, i: usize, j: usize
     requires { ⌜ r .length ≡ length (now file) ⌝ }
     ensures { λ κ. ⌜ κ ≡ kindIn r (now (file .entry)) (brickOf r (place g i j k)) ⌝ }
 {
-    kind_at(file, q.table, entry_on(r, g, q, i, j, k), q.width)
+    kind_at(file, q.table, entry_on(r, g, q, i, j, k))
 }
 
 // A sample's item number in its brick: vertical runs fastest.

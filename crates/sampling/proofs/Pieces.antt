@@ -4,7 +4,7 @@ use mathlib.Core.Path.{_≡_, refl, sym, ap, _∙_}
 use mathlib.Core.List.{List, [], _∷_}
 use native.Mathlib.Omega.{arith}
 use native.Mathlib.Nat.{add-mul, mul-one, add-sub-cancel-left}
-use lib.Ieee.{Float, binary64, ofBits}
+use lib.Ieee.{Float}
 use lib.ListN.{length, take, drop}
 use borrow.Rule.Slice.PartMut.{putMid}
 use Rattle.endian.specs.Loops.{cat}
@@ -16,18 +16,18 @@ use Rattle.endian.proofs.Bytes.{le-peek}
 use Rattle.record.specs.Types.{decodeOf}
 use Rattle.record.specs.declared.Record.{Record}
 use Rattle.checks.specs.Checks.{breaks5}
-use Rattle.table.specs.Entries.{kindAt}
 use Rattle.table.specs.declared.Kind.{Kind}
 use Rattle.table.specs.declared.Kind.the-variants.{Missing, Constant, Stored}
-use Rattle.table.proofs.Words.{constant-fits}
+use Rattle.table.proofs.Tables.{names-narrow}
 use Rattle.cube.specs.declared.Region.{Region}
-use Rattle.cube.specs.Places.{itemBytes, kindIn, brickOf, itemNo, byteOf, rowsOf, floatOf}
+use Rattle.cube.specs.declared.MissingBrick.{MissingBrick}
+use Rattle.cube.specs.Places.{itemBytes, kindIn, brickOf, itemNo, byteOf, rowsOf, missingBrick, floatOf}
 use Rattle.cube.specs.Regions.{place, sizeOf}
 use Rattle.cube.proofs.Runs.{float-missing, float-constant, float-read}
 use Rattle.runs.specs.declared.Lattice.{Lattice}
 use Rattle.runs.specs.Runs.{Ready}
 use Rattle.runs.specs.Boxes.{Along}
-use Rattle.runs.proofs.Steps.{ready-fit, ready-width, counts}
+use Rattle.runs.proofs.Steps.{ready-fit, ready-width, ready-missing, counts}
 use Rattle.runs.proofs.Boxes.{boxed-more1, boxed-run}
 use Rattle.sampling.specs.declared.Range.{Range}
 use Rattle.sampling.specs.Samples.{rangeOf, Fitting, floatsOf, FloatBox}
@@ -52,8 +52,8 @@ pub items-end : (o m n w b size : ℕ) → w ≡ b → o + (m + n) * b ≤ size 
 items-end o m n w b size e h = rw e (omega (arith, add-mul m n b))
 
 module _ (r : Record) (f : List ℕ) (κ : Kind) (m n : ℕ) (ys : List Float) where
-  pub items-missing : κ ≡ Missing → ys ≡ cat n (λ _. ofBits binary64 0 ∷ []) → ys ≡ floatsOf r f κ m n
-  items-missing e made = made ∙ sym (ap (λ (x : Kind). floatsOf r f x m n) e)
+  pub items-missing : (x : MissingBrick) → x ≡ missingBrick r → κ ≡ Missing → ys ≡ cat n (λ _. x .float ∷ []) → ys ≡ floatsOf r f κ m n
+  items-missing x ex e made = made ∙ ap (λ (y : MissingBrick). cat n (λ _. y .float ∷ [])) ex ∙ sym (ap (λ (y : Kind). floatsOf r f y m n) e)
 
   module _ (range : Range) (er : range ≡ rangeOf r) where
     pub items-same : (v : ℕ) (x : Float) → κ ≡ Constant v → x ≡ decodeOf (r .description .datatype) (range .min) (range .max) v → ys ≡ cat n (λ _. x ∷ []) → ys ≡ floatsOf r f κ m n
@@ -80,12 +80,11 @@ module _ (r : Record) (f : List ℕ) (g : Region) (q : Lattice) (ready : Ready r
   -- the type is one of the format's
   pub fitting : Fitting r q
   unfolding breaks5
-  fitting = record { typed = ready-fit r f g q ready .is-described .not5; width = ready-width r f g q ready }
+  fitting = record { typed = ready-fit r f g q ready .is-described .not5; width = ready-width r f g q ready; missing = ready-missing r f g q ready }
 
 module _ (r : Record) (f : List ℕ) (g : Region) (i j k : ℕ) where
   pub constant-is : (v : ℕ) → kindIn r f (brickOf r (place g i j k)) ≡ Constant v → v < 256 ^ itemBytes r
-  unfolding kindIn kindAt
-  constant-is v e = constant-fits (itemBytes r) _ v e
+  constant-is v e = names-narrow r f (brickOf r (place g i j k)) v e
 
   -- the samples of a vertical run, which lie in one brick
   pub row-floats : (n : ℕ) → Along r g 2 k n → (κ : Kind) → κ ≡ kindIn r f (brickOf r (place g i j k)) → floatsOf r f κ (itemNo r (place g i j k)) n ≡ cat n (λ t. floatOf r (rowsOf r f (place g i j (k + t))) ∷ [])

@@ -5,8 +5,8 @@ use mathlib.Core.Path.{_≡_, refl, sym, ap, _∙_}
 use mathlib.Core.List.{List, [], _∷_}
 use mathlib.Core.Logic.{⊎-elim}
 use native.Mathlib.Omega.{arith}
-use native.Mathlib.Nat.{add-mul, add-zero, mul-one, one-mul, zero-add, mul-assoc, mul-le-mul}
-use lib.Ieee.{Float, binary64, ofBits}
+use native.Mathlib.Nat.{add-mul, add-zero, mul-one, one-mul, zero-add, mul-assoc, mul-le-mul, pow-le-pow-right}
+use lib.Ieee.{Float}
 use lib.ListN.{length}
 use borrow.Rule.Slice.PartMut.{putMid}
 use Rattle.endian.specs.Loops.{cat}
@@ -18,12 +18,13 @@ use Rattle.record.specs.Record.{sideOf}
 use Rattle.record.specs.Types.{decodeOf}
 use Rattle.record.specs.declared.Record.{Record}
 use Rattle.checks.specs.Checks.{sideOk}
-use Rattle.checks.proofs.Described.{side-each, described-sides}
-use Rattle.table.specs.Windows.{Width}
+use Rattle.checks.proofs.Described.{side-exponent, described-sides}
+use Rattle.table.specs.Entries.{Width}
 use Rattle.table.specs.declared.Kind.{Kind}
 use Rattle.table.specs.declared.Kind.the-variants.{Missing, Constant, Stored}
 use Rattle.cube.specs.declared.Region.{Region}
-use Rattle.cube.specs.Places.{itemBytes, kindIn, brickOf, itemNo, rowsOf, floatOf}
+use Rattle.cube.specs.declared.MissingBrick.{MissingBrick}
+use Rattle.cube.specs.Places.{itemBytes, kindIn, brickOf, itemNo, rowsOf, floatOf, missingBrick}
 use Rattle.cube.specs.Regions.{runOf, place, sizeOf}
 use Rattle.runs.specs.declared.Lattice.{Lattice}
 use Rattle.runs.specs.Runs.{latticeOf, Ready}
@@ -63,8 +64,9 @@ le-item : (n b t : ℕ) (g : ℕ → List ℕ) (bytes : List ℕ) → bytes ≡ 
 le-item n b t g bytes e long h = sym (le-peek b bytes (t * b)) ∙ ap (λ (x : List ℕ). le b x 0) (ap (λ (x : List ℕ). peek x (t * b) b) e ∙ cat-part n b t g long h)
 
 module _ (r : Record) (f : List ℕ) (κ : Kind) (m s n : ℕ) (ys : List Float) where
-  pub strip-missing : κ ≡ Missing → ys ≡ cat n (λ _. ofBits binary64 0 ∷ []) → ys ≡ stripOf r f κ m s n
-  strip-missing e made = made ∙ cat-same n _ _ (λ t _. sym (cat-one _)) ∙ sym (ap (λ (x : Kind). stripOf r f x m s n) e)
+  pub strip-missing : (x : MissingBrick) → x ≡ missingBrick r → κ ≡ Missing → ys ≡ cat n (λ _. x .float ∷ []) → ys ≡ stripOf r f κ m s n
+  strip-missing x ex e made =
+      made ∙ ap (λ (y : MissingBrick). cat n (λ _. y .float ∷ [])) ex ∙ cat-same n _ _ (λ t _. sym (cat-one _)) ∙ sym (ap (λ (y : Kind). stripOf r f y m s n) e)
 
   module _ (range : Range) (er : range ≡ rangeOf r) where
     pub strip-same : (v : ℕ) (x : Float) → κ ≡ Constant v → x ≡ decodeOf (r .description .datatype) (range .min) (range .max) v → ys ≡ cat n (λ _. x ∷ []) → ys ≡ stripOf r f κ m s n
@@ -95,7 +97,7 @@ module _ (r : Record) (f : List ℕ) (κ : Kind) (m s n : ℕ) (ys : List Float)
 -- ---- the rows of one sample each on one inline
 
 small-side : (n : ℕ) → sideOk n ≡ true → n ≤ 64
-small-side = side-each (λ (n : ℕ). n ≤ 64) (omega arith) (omega arith) (omega arith) (omega arith) (omega arith)
+small-side n e = let p = side-exponent n e in rw (p .power) (pow-le-pow-right (omega arith) (p .greatest))
 
 -- a region that is one sample high
 module _ {r : Record} {f : List ℕ} {g : Region} {q : Lattice} {k nk : ℕ} (ready : Ready r f g q) (a : Along r g 2 k nk) (flat : q .count2 ≡ 1) where

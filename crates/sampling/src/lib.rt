@@ -1,4 +1,5 @@
 // The float read: the samples of a region as 64-bit floats, into a lent slice, brick by brick as in a raw read.
+use cube::MissingBrick;
 use cube::Region;
 use decoding::decode;
 use decoding::decode_one;
@@ -16,17 +17,18 @@ use runs::kind_on;
 use runs::lattice_of;
 use runs::left;
 use table::Kind;
+ghost use mathlib.Core.List.{[], _∷_};
 ghost use mathlib.Core.Path.{_≡_};
 ghost use Prim.Native.Nat.{ℕ, _+_, _*_, _^_, _≤_, _<_};
 ghost use lib.ListN.{length};
 ghost use Rattle.endian.specs.Loops.{cat};
 ghost use Rattle.endian.specs.Bytes.{peek};
-ghost use Rattle.table.specs.Windows.{Width};
+ghost use Rattle.table.specs.Entries.{Width};
 ghost use Rattle.table.specs.declared.Kind.the-variants.{Constant, Stored};
 ghost use Rattle.record.specs.declared.Verdict.the-variants.{Taken};
 ghost use Rattle.cube.specs.Places.{itemBytes, rowsOf, kindIn, brickOf, itemNo};
-ghost use Rattle.record.specs.Answers.{doneOf};
-ghost use Rattle.cube.specs.Regions.{runOf, place, sizeOf, floatRows, floatVerdict, after, over};
+ghost use Rattle.cube.specs.Calls.{floatRead, floats, answerOf, buffersAfter};
+ghost use Rattle.cube.specs.Regions.{runOf, place, sizeOf, floatRows, floatVerdict, over};
 ghost use Rattle.runs.specs.Runs.{Ready};
 ghost use Rattle.runs.specs.Boxes.{Along};
 ghost use Rattle.sampling.specs.Samples.{rangeOf, Fitting, floatsOf, stripOf, FloatBox};
@@ -47,7 +49,14 @@ fn range_of(r: Record) -> Range
     }
 }
 
-// As many samples as out has room for, from this item of a brick of this kind on. A missing brick reads as zero.
+// Samples of a missing brick.
+fn missing_floats(out: &mut [f64], missing: MissingBrick)
+    ensures { λ _. ⌜ now (out .exit) ≡ cat (length (now (out .entry))) (λ _. missing .float ∷ []) ⌝ }
+{
+    fill_floats(out, missing.float);
+}
+
+// As many samples as out has room for, from this item of a brick of this kind on.
 fn read_items(
     out: &mut [f64],
     file: &[u8],
@@ -63,7 +72,7 @@ fn read_items(
 {
     let d = r.description;
     match kind {
-        Kind::Missing => fill_floats(out, 0.0),
+        Kind::Missing => missing_floats(out, q.missing),
         Kind::Constant(raw) => {
             let value = decode_one(d.datatype, raw, range.min, range.max);
             fill_floats(out, value);
@@ -153,7 +162,7 @@ fn read_strip(
 {
     let d = r.description;
     match kind {
-        Kind::Missing => fill_floats(strip, 0.0),
+        Kind::Missing => missing_floats(strip, q.missing),
         Kind::Constant(number) => {
             let value = decode_one(d.datatype, number, range.min, range.max);
             fill_floats(strip, value);
@@ -359,8 +368,8 @@ fn read_taken(out: &mut [f64], file: &[u8], r: Record, g: Region) -> u64
 
 // A region's samples by the float rules, vertical fastest and inline slowest, into the front of out. It answers how many.
 pub fn read_float(out: &mut [f64], file: &[u8], r: Record, g: Region) -> Done
-    ensures answer { λ a. ⌜ a ≡ doneOf (floatVerdict r (now (file .entry)) g (length (now (out .entry)))) (sizeOf g) ⌝ }
-    ensures buffer { λ _. ⌜ now (out .exit) ≡ after (floatVerdict r (now (file .entry)) g (length (now (out .entry)))) (over (floatRows r (rowsOf r (now (file .entry))) g) (now (out .entry))) (now (out .entry)) ⌝ }
+    ensures answer { λ a. ⌜ a ≡ answerOf r (now (file .entry)) (floatRead g (now (out .entry))) ⌝ }
+    ensures buffer { λ _. ⌜ floats (now (out .exit)) ∷ [] ≡ buffersAfter r (now (file .entry)) (floatRead g (now (out .entry))) ⌝ }
 {
     let verdict = float_verdict(file, r, g, out.len());
     match verdict {

@@ -21,7 +21,7 @@ use Rattle.strings.specs.Strings.{endOf, stringAt, turnOf, placeFrom, pl
 use Rattle.strings.specs.Five.{nth, Five}
 use Rattle.strings.specs.declared.Turn.the-variants.{Item}
 use Rattle.strings.proofs.Ends.{end-low, end-high, end-zero, end-before}
-use Rattle.strings.proofs.Turns.{turn-item, turn-done, place-next, strings-item, strings-done}
+use Rattle.strings.proofs.Turns.{turn-item, turn-done, place-next, place-stays, strings-item, strings-done}
 
 -- bytes that are not zero add nothing to the count
 zeros-same : (t : List ℕ) (a k : ℕ) → ((j : ℕ) → j < k → getD t (a + j) 0 ≡ 0 → ⊥) → zerosTo t (a + k) ≡ zerosTo t a
@@ -140,7 +140,7 @@ module _ (t : List ℕ) (count : zerosTo t (length t) ≡ 5) (last : getD t (len
   five =
       record {
         hands = item;
-        done = turn-done t (placeOf t 5) at-end;
+        done = λ n h. turn-done t (placeOf t n) (rw (← place-stays t (placeOf t 5) 5 n h refl at-end) at-end);
         stays = turn-done t;
         strings = list 5 0 (length t) refl (omega (arith, after 5 (le-refl 5) .bytes-before, after 5 (le-refl 5) .inside));
         no-zero = λ n i h. clear n h i;

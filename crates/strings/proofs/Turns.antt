@@ -9,7 +9,6 @@ use native.Mathlib.Omega.{arith}
 use lib.ListN.{getD, length, drop-of-length-le}
 use lib.Seq.{take-nil}
 use borrow.Author.Tests.{lt-ltb, le-ltb}
-use Rattle.endian.specs.Bytes.{peek}
 use Rattle.strings.specs.Strings.{endOf, stringAt, turnOf, placeFrom, placeOf, stringsFrom, stringsOf}
 use Rattle.strings.specs.declared.Turn.the-variants.{Item, Done}
 use Rattle.strings.proofs.Ends.{end-low}
@@ -89,28 +88,15 @@ module _ (t : List ℕ) (at : ℕ) where
         | no g ↦ let q = turn-item t at (omega arith) in record { here = omega arith; start-is = cc; end-is = cc; next-is = cc }
       ]
 
-  -- the part of the text that an item names is the string there
-  pub item-string : (start end next : ℕ) → Item start end next ≡ turnOf t at → peek t start (end - start) ≡ stringAt t at
-  unfolding stringAt
-  item-string start end next e = let q = item-found start end next e in rw (q .start-is, q .end-is)
-
-  pub done-past : Done ≡ turnOf t at → length t ≤ at
-  done-past e =
-      elim (decLe (length t) at) [
-        | yes g ↦ g
-        | no g ↦ let q = turn-item t at (omega arith) in let z : _≡_ {A = ℕ} 0 1 = cc in absurd (omega arith)
-      ]
-
--- a turn more leads to the item's next
-pub place-item : (t : List ℕ) (at i start end next : ℕ) → at ≡ placeOf t i → Item start end next ≡ turnOf t at → next ≡ placeOf t (i + 1)
-unfolding placeFrom
-place-item t at i start end next p e = rw (add-one, ← p, ← e)
+-- a turn more leads past the string's zero
+pub place-more : (t : List ℕ) (at i : ℕ) → at ≡ placeOf t i → at < length t → endOf t at + 1 ≡ placeOf t (i + 1)
+place-more t at i p h = ap (λ (x : ℕ). endOf t x + 1) p ∙ sym (place-next t i (rw p at h)) ∙ ap (placeOf t) (sym (add-one i))
 
 -- and none leads on from where the walker is done
-stays : (t : List ℕ) (at i : ℕ) → at ≡ placeOf t i → Done ≡ turnOf t at → (k : ℕ) → at ≡ placeOf t (i + k)
+stays : (t : List ℕ) (at i : ℕ) → at ≡ placeOf t i → length t ≤ at → (k : ℕ) → at ≡ placeOf t (i + k)
 unfolding placeFrom
-stays t at i p e zero = rw add-zero p
-stays t at i p e (suc k) = rw (add-suc, ← stays t at i p e k, ← e)
+stays t at i p h zero = rw add-zero p
+stays t at i p h (suc k) = rw (add-suc, ← stays t at i p h k, turn-done t at h)
 
-pub place-stays : (t : List ℕ) (at i n : ℕ) → i ≤ n → at ≡ placeOf t i → Done ≡ turnOf t at → at ≡ placeOf t n
-place-stays t at i n h p e = let q : i + (n - i) ≡ n = omega arith in rw q at (stays t at i p e (n - i))
+pub place-stays : (t : List ℕ) (at i n : ℕ) → i ≤ n → at ≡ placeOf t i → length t ≤ at → at ≡ placeOf t n
+place-stays t at i n g p h = let q : i + (n - i) ≡ n = omega arith in rw q at (stays t at i p h (n - i))

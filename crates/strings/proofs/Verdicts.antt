@@ -1,34 +1,29 @@
 -- What the verdict on a cube's strings says of its text. Assumes nothing.
 use mathlib.Core.Bool.{false}
 use mathlib.Core.List.{List, []}
-use mathlib.Core.Path.{_≡_, refl}
-use Prim.Native.Nat.{ℕ, _+_, _-_, _≤_, zero-le}
+use mathlib.Core.Path.{_≡_}
+use Prim.Native.Nat.{ℕ, _+_, _-_, _≤_}
 use native.Mathlib.Nat.{add-sub-cancel-left}
 use native.Mathlib.Omega.{arith}
 use lib.ListN.{length, take, drop}
+use Rattle.geometry.specs.Limits.{textStart}
 use Rattle.record.specs.Header.{textOf}
 use Rattle.record.specs.Record.{headerOf}
 use Rattle.record.specs.declared.Record.{Record}
 use Rattle.record.specs.declared.Refusal.{Refusal}
-use Rattle.record.specs.declared.Verdict.{Verdict}
 use Rattle.record.specs.declared.Verdict.the-variants.{Taken, Refused}
 use Rattle.checks.specs.Checks.{breaks11}
 use Rattle.checks.specs.Fits.{breaks14With}
 use Rattle.checks.proofs.Described.{passed, described-text}
 use Rattle.checks.proofs.Records.{with-fit}
-use Rattle.strings.specs.Strings.{stringsVerdict, textIn, turnOf}
+use Rattle.strings.specs.Strings.{stringsVerdict, textIn, turnIn}
 use Rattle.strings.specs.Five.{Five}
-use Rattle.strings.specs.declared.Turn.the-variants.{Done}
-use Rattle.strings.proofs.Turns.{turn-done}
+use Rattle.strings.specs.declared.Turn.the-variants as turn
 use Rattle.strings.proofs.Fives.{text-five}
-
--- the part of the file that is the text section
-pub text-part : (f : List ℕ) (n : ℕ) → take (346 + n - 346) (drop 346 f) ≡ textOf f n
-text-part f n = rw add-sub-cancel-left
 
 module _ (r : Record) (f : List ℕ) where
   -- a record that passes check 14 has its text inside the file
-  pub text-inside : breaks14With r (length f) ≡ false → (5 ≤ r .text) × (346 + r .text ≤ length f)
+  pub text-inside : breaks14With r (length f) ≡ false → (5 ≤ r .text) × (textStart + r .text ≤ length f)
   unfolding headerOf
   text-inside e =
       let p = with-fit r (length f) e in
@@ -51,9 +46,5 @@ module _ (r : Record) (f : List ℕ) where
   pub cube-five : stringsVerdict r f ≡ Taken → (textIn r f ≡ textOf f (r .text)) × Five (textIn r f)
   cube-five e = (text-taken e, rw (text-taken e) (text-five _ (taken-passes e .1)))
 
-  pub refused-done : (at : ℕ) → (stringsVerdict r f ≡ Taken → ⊥) → turnOf (textIn r f) at ≡ Done
-  refused-done at e = go (stringsVerdict r f) refl
-    where
-      go : (v : Verdict) → stringsVerdict r f ≡ v → turnOf (textIn r f) at ≡ Done
-      go Taken q = absurd (e q)
-      go (Refused x) q = rw (text-refused x q) (turn-done [] at zero-le)
+  pub refused-turns : (n : ℕ) (x : Refusal) → stringsVerdict r f ≡ Refused x → (textIn r f ≡ []) × (turnIn r f n ≡ turn.Refused x)
+  refused-turns n x e = (text-refused x e, rw e)

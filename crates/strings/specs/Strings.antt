@@ -1,6 +1,7 @@
--- The strings of a cube's text section, and the turns in which a walker hands them out.
+-- The strings of a cube's text section (FORMAT 10.11), and the turns in which a walker hands them out.
 use mathlib.Core.Bool.{cond}
 use mathlib.Core.List.{List, [], _∷_}
+use mathlib.Core.Option.{Option, none, some}
 use Prim.Native.Nat.{ℕ, zero, suc, _+_, _-_}
 use lib.Dec.{ltb}
 use lib.ListN.{length, drop}
@@ -10,10 +11,11 @@ use Rattle.record.specs.Answers.{refused, isTaken}
 use Rattle.record.specs.Header.{textOf}
 use Rattle.record.specs.declared.Record.{Record}
 use Rattle.record.specs.declared.Verdict.{Verdict}
-use Rattle.record.specs.declared.Verdict.the-variants.{Taken}
+use Rattle.record.specs.declared.Verdict.the-variants.{Taken, Refused}
 use Rattle.checks.specs.Checks.{breaks11}
 use Rattle.checks.specs.Fits.{breaks14With}
 use Rattle.strings.specs.declared.Turn.{Turn}
+use Rattle.strings.specs.declared.Turn.the-variants as turn
 use Rattle.strings.specs.declared.Turn.the-variants.{Item, Done}
 
 -- check 14 with the file f, then check 11 of its text section
@@ -39,10 +41,27 @@ stringAt t at = peek t at (endOf t at - at)
 unfoldable pub turnOf : List ℕ → ℕ → Turn
 turnOf t at = cond (ltb at (length t)) (Item at (endOf t at) (endOf t at + 1)) Done
 
--- where a walker at a place stands after a turn
+-- what a turn says, by its cases: its verdict, whose numbers are those of FORMAT 9.2, where done is taken; the string that it hands out of a text; and where a
+-- walker at a place stands after it
+abbrev pub turnVerdict : Turn → Verdict
+turnVerdict (Item start end next) = Taken
+turnVerdict Done = Taken
+turnVerdict (turn.Refused x) = Refused x
+
+abbrev pub turnString : List ℕ → Turn → Option (List ℕ)
+turnString t (Item start end next) = some (peek t start (end - start))
+turnString t Done = none
+turnString t (turn.Refused x) = none
+
 abbrev pub afterTurn : ℕ → Turn → ℕ
 afterTurn at (Item start end next) = next
 afterTurn at Done = at
+afterTurn at (turn.Refused x) = at
+
+-- what a walker with a verdict stands at
+abbrev pub turnBy : Verdict → List ℕ → ℕ → Turn
+turnBy Taken t at = turnOf t at
+turnBy (Refused x) t at = turn.Refused x
 
 -- where a walker that starts at a place stands after n turns
 unfoldable pub placeFrom : List ℕ → ℕ → ℕ → ℕ
@@ -53,10 +72,15 @@ placeFrom t at (suc n) = afterTurn (placeFrom t at n) (turnOf t (placeFrom t at 
 abbrev pub placeOf : List ℕ → ℕ → ℕ
 placeOf t n = placeFrom t 0 n
 
+-- turn n of a cube
+abbrev pub turnIn : Record → List ℕ → ℕ → Turn
+turnIn r f n = turnBy (stringsVerdict r f) (textIn r f) (placeOf (textIn r f) n)
+
 -- a turn's string, and after it the later ones from the next place on
 abbrev pub handed : List ℕ → Turn → (ℕ → List (List ℕ)) → List (List ℕ)
 handed t (Item start end next) later = peek t start (end - start) ∷ later next
 handed t Done later = []
+handed t (turn.Refused x) later = []
 
 -- the strings that n turns from a place on hand out
 unfoldable pub stringsFrom : List ℕ → ℕ → ℕ → List (List ℕ)

@@ -2,23 +2,27 @@
 // what they do stands in functions on a slice and a place.
 use checks::check11;
 use checks::check14_with;
+use geometry::TEXT_START;
 use record::Record;
+use record::Refusal;
 use record::Verdict;
 use record::refuse;
-ghost use mathlib.Core.List.{[]};
 ghost use mathlib.Core.Path.{_≡_};
-ghost use lib.ListN.{getD};
-ghost use Rattle.strings.specs.Strings.{stringsVerdict, textIn, stringAt, turnOf, placeOf, stringsOf};
+ghost use Prim.Native.Nat.{_≤_};
+ghost use lib.ListN.{length};
+ghost use Rattle.strings.specs.Strings.{stringsVerdict, textIn, endOf, stringAt, turnOf, turnBy, turnIn, placeOf};
 ghost use Rattle.strings.specs.Five.{FiveStrings};
 
-// A walker over the strings of a text section: the section, and the place where the next string starts.
+// A walker over the strings of a text section: whether the walk is taken, the section, which is empty where it is
+// refused, and the place where the next string starts.
 pub struct Strings<'a> {
+    pub verdict: Verdict,
     pub text: &'a [u8],
     pub at: usize,
 }
 
 // What a walker finds at its place: the string from start up to, not including, end, with the next one at next; or
-// that all strings are handed out.
+// that all strings are handed out; or that the walk is refused.
 pub enum Turn {
     Item {
         start: usize,
@@ -26,10 +30,11 @@ pub enum Turn {
         next: usize,
     },
     Done,
+    Refused(Refusal),
 }
 
 // Checks 14 and 11.
-pub fn strings_verdict(file: &[u8], r: Record) -> Verdict
+fn strings_verdict(file: &[u8], r: Record) -> Verdict
     ensures { λ v. ⌜ v ≡ stringsVerdict r (now (file .entry)) ⌝ }
 {
     let misfit = check14_with(r, file.len() as u64);
@@ -37,27 +42,36 @@ pub fn strings_verdict(file: &[u8], r: Record) -> Verdict
         return refuse(14);
     }
     let text = r.text as usize;
-    let end = 346 + text;
-    let broken = check11(&file[346..end]);
+    let end = TEXT_START + text;
+    let broken = check11(&file[TEXT_START..end]);
     if broken {
         return refuse(11);
     }
     Verdict::Taken
 }
 
-// The text section; refused, an empty part of the file, so that a walker over it is done at once.
-pub fn text_of<'a>(file: &'a [u8], r: Record) -> &'a [u8]
+// The text section of a cube whose verdict is known; refused, an empty part of the file.
+fn text_of<'a>(file: &'a [u8], r: Record, verdict: Verdict) -> &'a [u8]
+    requires { ⌜ verdict ≡ stringsVerdict r (now file) ⌝ }
     ensures { λ t. ⌜ now t ≡ textIn r (now (file .entry)) ⌝ }
 {
-    let verdict = strings_verdict(file, r);
     match verdict {
         Verdict::Refused(_) => &file[0..0],
         Verdict::Taken => {
             let text = r.text as usize;
-            let end = 346 + text;
-            &file[346..end]
+            let end = TEXT_START + text;
+            &file[TEXT_START..end]
         }
     }
+}
+
+// Where the string at a place of a text ends: at the next zero byte.
+fn end_at(text: &[u8], at: usize) -> usize
+    requires { ⌜ at ≤ length (now text) ⌝ }
+    ensures end { λ e. ⌜ e ≡ endOf (now (text .entry)) at ⌝ }
+    ensures inside { λ e. ⌜ (at ≤ e) × (e ≤ length (now (text .entry))) ⌝ }
+{
+    bytes::scan::find(text, at, text.len(), 0)
 }
 
 // What stands at a place of a text.
@@ -67,7 +81,7 @@ fn turn_at(text: &[u8], at: usize) -> Turn
     if text.len() <= at {
         return Turn::Done;
     }
-    let zero = bytes::scan::find(text, at, text.len(), 0);
+    let zero = end_at(text, at);
     let after = zero + 1;
     Turn::Item {
         start: at,
@@ -76,19 +90,25 @@ fn turn_at(text: &[u8], at: usize) -> Turn
     }
 }
 
-// The string at a place, without its zero; an empty part where all are handed out.
+// What a walk with a verdict stands at.
+fn turn_by(verdict: Verdict, text: &[u8], at: usize) -> Turn
+    ensures { λ t. ⌜ t ≡ turnBy verdict (now (text .entry)) at ⌝ }
+{
+    match verdict {
+        Verdict::Refused(refusal) => Turn::Refused(refusal),
+        Verdict::Taken => turn_at(text, at),
+    }
+}
+
+// The string at a place, without its zero; an empty part where there is none.
 fn part_at<'a>(text: &'a [u8], at: usize) -> &'a [u8]
     ensures { λ s. ⌜ now s ≡ stringAt (now (text .entry)) at ⌝ }
 {
-    let turn = turn_at(text, at);
-    match turn {
-        Turn::Item {
-            start,
-            end,
-            next: _,
-        } => &text[start..end],
-        Turn::Done => &text[0..0],
+    if text.len() <= at {
+        return &text[0..0];
     }
+    let end = end_at(text, at);
+    &text[at..end]
 }
 
 // The place after n turns from the start of a text; fewer where all strings are handed out before.
@@ -98,60 +118,44 @@ fn place_in(text: &[u8], n: u32) -> usize
     let mut at = 0;
     let mut i = 0;
     while i < n {
-        let turn = turn_at(text, at);
-        match turn {
-            Turn::Item {
-                start: _,
-                end: _,
-                next,
-            } => {
-                at = next;
-            }
-            Turn::Done => {
-                return at;
-            }
+        if text.len() <= at {
+            return at;
         }
+        at = end_at(text, at) + 1;
         i += 1;
     }
     at
 }
 
-fn place_of(file: &[u8], r: Record, n: u32) -> usize
-    ensures { λ p. ⌜ p ≡ placeOf (textIn r (now (file .entry))) n ⌝ }
-{
-    place_in(text_of(file, r), n)
-}
-
-// What turn n of a cube hands out, from 0 on, as places of its text section; done where it is refused or has no such string.
+// What turn n of a cube hands out, from 0 on, as places of its text section.
 pub fn turn_of(file: &[u8], r: Record, n: u32) -> Turn
-    ensures { λ t. ⌜ t ≡ turnOf (textIn r (now (file .entry))) (placeOf (textIn r (now (file .entry))) n) ⌝ }
+    ensures { λ t. ⌜ t ≡ turnIn r (now (file .entry)) n ⌝ }
 {
-    let text = text_of(file, r);
-    turn_at(text, place_in(text, n))
+    let verdict = strings_verdict(file, r);
+    let text = text_of(file, r, verdict);
+    turn_by(verdict, text, place_in(text, n))
 }
 
-// A walker at the start of a text.
-fn walker<'a>(text: &'a [u8]) -> Strings<'a>
-    ensures { λ w. ⌜ (w .text ≡ text .entry) × (w .at ≡ 0) ⌝ }
-{
-    Strings { text, at: 0 }
-}
-
-// A walker over the strings of a cube; refused, one that is done at once.
+// A walker at the start of the strings of a cube.
 pub fn strings_of<'a>(file: &'a [u8], r: Record) -> Strings<'a>
-    ensures { λ w. ⌜ (now (w .text) ≡ textIn r (now (file .entry))) × (w .at ≡ 0) ⌝ }
+    ensures { λ w. ⌜ (w .verdict ≡ stringsVerdict r (now (file .entry))) × (now (w .text) ≡ textIn r (now (file .entry))) × (w .at ≡ 0) ⌝ }
 {
-    walker(text_of(file, r))
+    let verdict = strings_verdict(file, r);
+    Strings {
+        verdict,
+        text: text_of(file, r, verdict),
+        at: 0,
+    }
 }
 
 // What the walker stands at. It goes on saying done after the last string.
 pub fn next<'a>(w: Strings<'a>) -> Turn
-    ensures { λ t. ⌜ t ≡ turnOf (now (w .entry .text)) (w .entry .at) ⌝ }
+    ensures { λ t. ⌜ t ≡ turnBy (w .entry .verdict) (now (w .entry .text)) (w .entry .at) ⌝ }
 {
-    turn_at(w.text, w.at)
+    turn_by(w.verdict, w.text, w.at)
 }
 
-// The string that the walker stands at, without its zero; an empty part where it is done.
+// The string that the walker stands at, without its zero; an empty part where there is none.
 pub fn string<'a>(w: Strings<'a>) -> &'a [u8]
     ensures { λ s. ⌜ now s ≡ stringAt (now (w .entry .text)) (w .entry .at) ⌝ }
 {
@@ -160,18 +164,13 @@ pub fn string<'a>(w: Strings<'a>) -> &'a [u8]
 
 // The walker at another place: after a turn, at its next.
 pub fn moved<'a>(w: Strings<'a>, at: usize) -> Strings<'a>
-    ensures { λ q. ⌜ (q .text ≡ w .entry .text) × (q .at ≡ at) ⌝ }
+    ensures { λ q. ⌜ (q .verdict ≡ w .entry .verdict) × (q .text ≡ w .entry .text) × (q .at ≡ at) ⌝ }
 {
-    Strings { text: w.text, at }
-}
-
-// The n-th string of a cube, from 0 on; an empty part where it is refused or has no such string. Its contract says nothing
-// of a walker.
-pub fn string_at<'a>(file: &'a [u8], r: Record, n: u32) -> &'a [u8]
-    ensures { λ s. ⌜ now s ≡ getD (stringsOf (textIn r (now (file .entry)))) n [] ⌝ }
-{
-    let at = place_of(file, r, n);
-    string(moved(strings_of(file, r), at))
+    Strings {
+        verdict: w.verdict,
+        text: w.text,
+        at,
+    }
 }
 
 // A text that passes check 11 is five strings, each followed by a zero; five turns hand them out, and then the walker is done.

@@ -4,4 +4,3 @@ pub mod Answers
 pub mod Numbers
 pub mod Orders
 pub mod Permutation
-pub mod Worked

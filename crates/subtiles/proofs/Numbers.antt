@@ -6,6 +6,7 @@ use native.Mathlib.Omega.{arith}
 use mir.Syntax.{w64}
 use mir.Val.{Fits}
 use lib.Arith.{digits-lt, digits-div, digits-mod}
+use Rattle.geometry.specs.Limits.{sideRoom}
 use Rattle.subtiles.specs.Runs.{tiledRun, plainRun}
 use Rattle.subtiles.proofs.Sides.{Tiled}
 
@@ -83,19 +84,22 @@ module _ (n0 n1 : ℕ) (t0 : Tiled n0) (t1 : Tiled n1) where
       plain-split n1 (r / n1 / 8) (r / n1 % 8) (r % n1 / 8) (r % n1 % 8) (in-subtile t1 (mod-lt r (omega arith))) (omega arith) (omega arith)
       ∙ rw (div-add-mod' (r / n1) 8, div-add-mod' (r % n1) 8, div-add-mod' r n1)
 
--- ---- that nothing wraps
+-- ---- that nothing wraps: products of two sides and a side
 
-pub product-small : {a b : ℕ} → a ≤ 4096 → b ≤ 64 → a * b ≤ 266240
-product-small {a} {b} ha hb = let h : a * b ≤ 262144 = mul-le-mul ha hb in omega arith
+abbrev small : ℕ
+small = sideRoom * sideRoom * sideRoom + sideRoom * sideRoom
 
-pub pair-small : {a b d : ℕ} → a ≤ 4096 → b ≤ 64 → d ≤ 4096 → a * b + d ≤ 266240
-pair-small {a} {b} ha hb hd = let h : a * b ≤ 262144 = mul-le-mul ha hb in omega arith
+pub product-small : {a b : ℕ} → a ≤ sideRoom * sideRoom → b ≤ sideRoom → a * b ≤ small
+product-small {a} {b} ha hb = let h : a * b ≤ sideRoom * sideRoom * sideRoom = mul-le-mul ha hb in omega arith
 
-pub small-fits : {n : ℕ} → n ≤ 266240 → Fits w64 n
+pub pair-small : {a b d : ℕ} → a ≤ sideRoom * sideRoom → b ≤ sideRoom → d ≤ sideRoom * sideRoom → a * b + d ≤ small
+pair-small {a} {b} ha hb hd = let h : a * b ≤ sideRoom * sideRoom * sideRoom = mul-le-mul ha hb in omega arith
+
+pub small-fits : {n : ℕ} → n ≤ small → Fits w64 n
 small-fits h = omega arith
 
-pub tiles-fit : {t : ℕ} → t ≤ 266240 → Fits w64 (t * 64)
+pub tiles-fit : {t : ℕ} → t ≤ small → Fits w64 (t * 64)
 tiles-fit h = omega arith
 
-pub runs-fit : {t e : ℕ} → t ≤ 266240 → e ≤ 64 → Fits w64 (t * 64 + e)
+pub runs-fit : {t e : ℕ} → t ≤ small → e ≤ 64 → Fits w64 (t * 64 + e)
 runs-fit h k = omega arith

@@ -1,9 +1,9 @@
--- What a permutation answers, and what it leaves in the lent buffer.
+-- What a permutation (FORMAT 10.13) answers, and what it leaves in the lent buffer.
 use mathlib.Core.Bool.{Bool, _||_, cond}
 use mathlib.Core.List.{List, _++_}
 use Prim.Native.Nat.{ℕ}
 use lib.Dec.{ltb}
-use lib.ListN.{getD, drop}
+use lib.ListN.{getD, drop, length}
 use Rattle.geometry.specs.Geometry.{brickBytes}
 use Rattle.subtiles.specs.Subtiles.{plainFrom, subtiledFrom, breaks20}
 use Rattle.record.specs.declared.Done.{Done}
@@ -40,3 +40,10 @@ permuteAnswer side w from into =
 abbrev pub bufferAfter : Done → List ℕ → List ℕ → List ℕ
 bufferAfter (Taken n) moved buffer = moved ++ drop n buffer
 bufferAfter (Refused x) moved buffer = buffer
+
+-- the buffer after a brick is put in plain order, and in the version 1 order
+abbrev pub plainBuffer : List ℕ → ℕ → List ℕ → List ℕ → List ℕ
+plainBuffer side w brick buffer = bufferAfter (permuteAnswer side w (length brick) (length buffer)) (plainIn side w brick) buffer
+
+abbrev pub subtiledBuffer : List ℕ → ℕ → List ℕ → List ℕ → List ℕ
+subtiledBuffer side w brick buffer = bufferAfter (permuteAnswer side w (length brick) (length buffer)) (subtiledIn side w brick) buffer

@@ -3,6 +3,7 @@ use mathlib.Core.Bool.{Bool, cond}
 use mathlib.Core.Path.{_≡_}
 use mathlib.Core.List.{List}
 use Prim.Native.Nat.{ℕ, _+_, _*_, _/_, _%_, _≤_, _<_}
+use Rattle.geometry.specs.Limits.{sideRoom}
 use Rattle.subtiles.specs.Answers.{plainIn, subtiledIn}
 
 -- the number in the version 1 order of run r of the plain order: 64 runs a subtile, and n1 / 8 subtiles in a row of them
@@ -24,8 +25,8 @@ movedIn plain side w brick = cond plain (plainIn side w brick) (subtiledIn side 
 -- so many runs, of so many bytes, are the whole buffer, and each is taken from inside the brick
 pub record Movable (plain : Bool) (n1 runs run from into : ℕ) : Type 0 where
   pub low : 8 ≤ n1
-  pub high : n1 ≤ 64
-  pub few : runs ≤ 4096
+  pub high : n1 ≤ sideRoom
+  pub few : runs ≤ sideRoom * sideRoom
   pub inside : (r : ℕ) → r < runs → sourceRun plain n1 r < runs
   pub whole : into ≡ runs * run
   pub enough : runs * run ≤ from

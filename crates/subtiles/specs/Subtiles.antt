@@ -1,4 +1,4 @@
--- The version 1 brick order: a brick of sides n0, n1, n2 is cut into subtiles of 8 x 8 x n2. Check 20.
+-- The version 1 brick order (FORMAT 13): a brick of sides n0, n1, n2 is cut into subtiles of 8 x 8 x n2. Check 20.
 use mathlib.Core.Bool.{Bool, not, _&&_, _||_}
 use mathlib.Core.List.{List}
 use Prim.Native.Nat.{ℕ, _+_, _*_, _/_, _%_}
@@ -6,6 +6,7 @@ use lib.Dec.{eqb}
 use lib.ListN.{getD}
 use Rattle.endian.specs.Loops.{cat}
 use Rattle.endian.specs.Bytes.{peek}
+use Rattle.geometry.specs.Limits.{leastExponent, powerIn}
 use Rattle.geometry.specs.Geometry.{itemOf}
 
 -- the item number of (i, j, k) in the version 1 order
@@ -25,10 +26,13 @@ unfoldable pub subtiledFrom : ℕ → ℕ → ℕ → ℕ → List ℕ → List 
 subtiledFrom n0 n1 n2 w brick =
     cat (n0 / 8) (λ x. cat (n1 / 8) (λ y. cat 8 (λ i. cat 8 (λ j. cat n2 (λ k. itemAt w brick (itemOf n1 n2 (8 * x + i) (8 * y + j) k))))))
 
--- check 20: first two sides 8, 16, 32, 64, third 4 to 64 by doubling, item 1, 2 or 4 bytes
-abbrev pub tileSide : ℕ → Bool
-tileSide n = eqb n 8 || eqb n 16 || eqb n 32 || eqb n 64
+-- whole subtiles fill a side of 2^3 and more
+abbrev pub tileExponent : ℕ
+tileExponent = 3
 
+-- check 20: the first two sides are filled by whole subtiles, the third is any side, and an item has 1, 2 or 4 bytes
 unfoldable pub breaks20 : List ℕ → ℕ → Bool
 breaks20 sides w =
-    not (tileSide (getD sides 0 0) && tileSide (getD sides 1 0) && (eqb (getD sides 2 0) 4 || tileSide (getD sides 2 0)) && (eqb w 1 || eqb w 2 || eqb w 4))
+    not (powerIn tileExponent (getD sides 0 0) && powerIn tileExponent (getD sides 1 0)
+    && powerIn leastExponent (getD sides 2 0)
+    && (eqb w 1 || eqb w 2 || eqb w 4))

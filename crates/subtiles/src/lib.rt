@@ -1,6 +1,8 @@
 // The version 1 brick order as a permutation: a brick moved to plain order and back, between two lent buffers.
 use endian::copy;
+use geometry::LEAST_EXPONENT;
 use geometry::brick_bytes;
+use geometry::power_in;
 use record::Done;
 use record::Refusal;
 ghost use mathlib.Core.Path.{_≡_};
@@ -8,10 +10,14 @@ ghost use Prim.Native.Nat.{_*_, _≤_, _<_};
 ghost use lib.ListN.{length};
 ghost use Rattle.endian.specs.Loops.{cat};
 ghost use Rattle.endian.specs.Bytes.{peek};
-ghost use Rattle.subtiles.specs.Subtiles.{tileSide, breaks20};
-ghost use Rattle.subtiles.specs.Answers.{refused, plainIn, subtiledIn, permuteAnswer, bufferAfter};
+ghost use Rattle.geometry.specs.Limits.{sideRoom};
+ghost use Rattle.subtiles.specs.Subtiles.{breaks20};
+ghost use Rattle.subtiles.specs.Answers.{refused, permuteAnswer, bufferAfter, plainBuffer, subtiledBuffer};
 ghost use Rattle.subtiles.specs.Runs.{tiledRun, plainRun, sourceRun, movedIn, Movable};
 ghost use Rattle.subtiles.specs.Laws.{IsPermutation, ThereAndBack};
+
+// Whole subtiles fill a side of 2^3 and more.
+const TILE_EXPONENT: u32 = 3;
 
 fn refuse(number: u32) -> Done
     ensures { λ r. ⌜ r ≡ refused number ⌝ }
@@ -19,25 +25,18 @@ fn refuse(number: u32) -> Done
     Done::Refused(Refusal { number, entry: 0 })
 }
 
-// A side that whole subtiles fill.
-fn tile_side(n: u32) -> bool
-    ensures { λ r. ⌜ r ≡ tileSide n ⌝ }
-{
-    (n == 8) | (n == 16) | (n == 32) | (n == 64)
-}
-
 fn breaks_20(side: [u32; 3], width: u32) -> bool
     ensures { λ r. ⌜ r ≡ breaks20 side width ⌝ }
 {
-    let third = (side[2] == 4) | tile_side(side[2]);
+    let tiled = power_in(TILE_EXPONENT, side[0]) & power_in(TILE_EXPONENT, side[1]);
     let item = (width == 1) | (width == 2) | (width == 4);
-    !(tile_side(side[0]) & tile_side(side[1]) & third & item)
+    !(tiled & power_in(LEAST_EXPONENT, side[2]) & item)
 }
 
 // A run is the items of one column (i, j). Both orders keep them together, so that a run moves as a whole.
 // The number in the version 1 order of run r of the plain order: 64 runs a subtile, n1 / 8 subtiles in a row of them.
 fn tiled_run(n1: usize, r: usize) -> usize
-    requires { ⌜ (8 ≤ n1) × (n1 ≤ 64) × (r < 4096) ⌝ }
+    requires { ⌜ (8 ≤ n1) × (n1 ≤ sideRoom) × (r < sideRoom * sideRoom) ⌝ }
     ensures { λ s. ⌜ s ≡ tiledRun n1 r ⌝ }
 {
     let across = n1 / 8;
@@ -50,7 +49,7 @@ fn tiled_run(n1: usize, r: usize) -> usize
 
 // The number in the plain order of run r of the version 1 order.
 fn plain_run(n1: usize, r: usize) -> usize
-    requires { ⌜ (8 ≤ n1) × (n1 ≤ 64) × (r < 4096) ⌝ }
+    requires { ⌜ (8 ≤ n1) × (n1 ≤ sideRoom) × (r < sideRoom * sideRoom) ⌝ }
     ensures { λ s. ⌜ s ≡ plainRun n1 r ⌝ }
 {
     let across = n1 / 8;
@@ -63,7 +62,7 @@ fn plain_run(n1: usize, r: usize) -> usize
 
 // Where run r is taken from, on the way to plain order or back.
 fn source_run(plain: bool, n1: usize, r: usize) -> usize
-    requires { ⌜ (8 ≤ n1) × (n1 ≤ 64) × (r < 4096) ⌝ }
+    requires { ⌜ (8 ≤ n1) × (n1 ≤ sideRoom) × (r < sideRoom * sideRoom) ⌝ }
     ensures { λ s. ⌜ s ≡ sourceRun plain n1 r ⌝ }
 {
     if plain {
@@ -113,7 +112,7 @@ fn permute(out: &mut [u8], brick: &[u8], side: [u32; 3], width: u32, plain: bool
 // A version 1 brick to plain order.
 pub fn to_plain(out: &mut [u8], brick: &[u8], side: [u32; 3], width: u32) -> Done
     ensures { λ r. ⌜ r ≡ permuteAnswer side width (length (now (brick .entry))) (length (now (out .entry))) ⌝ }
-    ensures { λ r. ⌜ now (out .exit) ≡ bufferAfter (permuteAnswer side width (length (now (brick .entry))) (length (now (out .entry)))) (plainIn side width (now (brick .entry))) (now (out .entry)) ⌝ }
+    ensures { λ r. ⌜ now (out .exit) ≡ plainBuffer side width (now (brick .entry)) (now (out .entry)) ⌝ }
 {
     permute(out, brick, side, width, true)
 }
@@ -121,7 +120,7 @@ pub fn to_plain(out: &mut [u8], brick: &[u8], side: [u32; 3], width: u32) -> Don
 // A brick in plain order to the version 1 order.
 pub fn to_subtiled(out: &mut [u8], brick: &[u8], side: [u32; 3], width: u32) -> Done
     ensures { λ r. ⌜ r ≡ permuteAnswer side width (length (now (brick .entry))) (length (now (out .entry))) ⌝ }
-    ensures { λ r. ⌜ now (out .exit) ≡ bufferAfter (permuteAnswer side width (length (now (brick .entry))) (length (now (out .entry)))) (subtiledIn side width (now (brick .entry))) (now (out .entry)) ⌝ }
+    ensures { λ r. ⌜ now (out .exit) ≡ subtiledBuffer side width (now (brick .entry)) (now (out .entry)) ⌝ }
 {
     permute(out, brick, side, width, false)
 }

@@ -12,10 +12,12 @@ use lib.ListN.{length, getD, set, replicate, length-set, length-replicate}
 use lib.Seq.{getD-set-same, getD-set-other}
 use borrow.Author.Tests.{ltb-true, ltb-false}
 use borrow.Author.Count.{below-more}
-use Rattle.endian.proofs.Search.{clash}
-use Rattle.table.specs.Entries.{kindAt, lowestOutOfRange}
-use Rattle.table.proofs.Words.{at-stored, at-below}
-use Rattle.table.proofs.Range.{range-none}
+use Rattle.endian.specs.Loops.{first}
+use Rattle.endian.proofs.Search.{clash, first-before}
+use Rattle.table.specs.declared.Table.{Table}
+use Rattle.table.specs.Entries.{outsideAt}
+use Rattle.table.proofs.Words.{at-stored, offset-stored}
+use Rattle.table.proofs.Range.{at-fits}
 use Rattle.table.specs.Windows.{offsetAt, Near, Inside, Scanned, Touched, Decides, NextStart}
 
 -- offsets less than b apart fall in one cell or in neighbours
@@ -41,7 +43,7 @@ abbrev pub slot : ℕ → ℕ → ℕ → ℕ
 slot b lo o = (o - lo) / b + 1
 
 -- the cells after the first i entries
-pub record Table (os : ℕ → ℕ) (b lo i : ℕ) (cells : List ℕ) : Type 0 where
+pub record Filled (os : ℕ → ℕ) (b lo i : ℕ) (cells : List ℕ) : Type 0 where
   pub size : length cells ≡ 16384
   pub held : (j : ℕ) → j < i → Inside b lo (os j) → getD cells (slot b lo (os j)) 0 ≡ os j
   pub real : (s : ℕ) → 0 < getD cells s 0 → (j : ℕ) × (j < i) × (os j ≡ getD cells s 0)
@@ -51,18 +53,19 @@ abbrev pub Clear : (ℕ → ℕ) → ℕ → ℕ → ℕ → Type 0
 Clear os b lo n = (i : ℕ) → i < n → (j : ℕ) → j < i → Inside b lo (os i) → Inside b lo (os j) → Near b (os j) (os i) → ⊥
 
 module _ (os : ℕ → ℕ) (b lo : ℕ) where
-  pub table-start : Table os b lo 0 (replicate 16384 0)
+  pub table-start : Filled os b lo 0 (replicate 16384 0)
   table-start =
       record { size = length-replicate {A = ℕ} 16384 0; held = λ j h. absurd (omega arith); real = λ s h. absurd (omega (arith, zeros 16384 s)) }
 
-  pub table-skip : {i : ℕ} {cells : List ℕ} → Table os b lo i cells → (Inside b lo (os i) → ⊥) → Table os b lo (i + 1) cells
+  pub table-skip : {i : ℕ} {cells : List ℕ} → Filled os b lo i cells → (Inside b lo (os i) → ⊥) → Filled os b lo (i + 1) cells
   table-skip {i} {cells} t out =
       record { size = t .size; held = below-more _ i (t .held) (λ h. absurd (out h)); real = λ s h. let r = t .real s h in (r .0, omega arith, r .2) }
 
   pub clear-skip : {i : ℕ} → Clear os b lo i → (Inside b lo (os i) → ⊥) → Clear os b lo (i + 1)
   clear-skip {i} h out = below-more _ i h (λ j g a. absurd (out a))
 
-  module _ (i : ℕ) (cells : List ℕ) (pos : 0 < b) (t : Table os b lo i cells) (here : Inside b lo (os i)) (c : ℕ) (is-c : c ≡ (os i - lo) / b) (small : c < 16382) (none : (s : ℕ) → c ≤ s → s ≤ c + 2 → Near b (getD cells s 0) (os i) → ⊥) where
+  module _ (i : ℕ) (cells : List ℕ) (pos : 0 < b) (t : Filled os b lo i cells) (here : Inside b lo (os i)) (c : ℕ) (is-c : c ≡ (os i - lo) / b)
+      (small : c < 16382) (none : (s : ℕ) → c ≤ s → s ≤ c + 2 → Near b (getD cells s 0) (os i) → ⊥) where
     -- an earlier offset that overlaps would stand in one of the three cells
     apart : (j : ℕ) → j < i → Inside b lo (os j) → Near b (os j) (os i) → ⊥
     apart j g a n =
@@ -88,7 +91,7 @@ module _ (os : ℕ → ℕ) (b lo : ℕ) where
         let r = t .real s (omega (arith, q)) in
         (r .0, omega arith, r .2 ∙ sym q)
 
-    pub table-put : Table os b lo (i + 1) (set cells (c + 1) (os i))
+    pub table-put : Filled os b lo (i + 1) (set cells (c + 1) (os i))
     table-put =
         record {
           size = length-set cells (c + 1) (os i) ∙ t .size;
@@ -129,9 +132,10 @@ Hit os b n r = r < n → (j : ℕ) × (j < r) × Near b (os j) (os r)
 abbrev pub Placed : (ℕ → ℕ) → ℕ → ℕ → ℕ → Type 0
 Placed os n from end = (k : ℕ) → k < n → 0 < os k → (from ≤ os k) × (os k < end)
 
-pub placed : (w : ℕ) (f : List ℕ) (t h b n m : ℕ) → lowestOutOfRange h b n (kindAt w f t) m ≡ m → Placed (offsetAt f t) m h (2 ^ 63)
-placed w f t h b n m none k g s =
-    (range-none h b n (kindAt w f t) m none k g (offsetAt f t k) (at-stored w f t k s) .0, at-below f t k s)
+pub placed : (t : Table) (f : List ℕ) → first (outsideAt t f) (t .count) ≡ t .count → Placed (offsetAt t f) (t .count) (t .header) (2 ^ 63)
+placed t f none k g s =
+    let q = offset-stored t f k s in
+    (at-fits t f k (first-before (outsideAt t f) (t .count) k (rw none g)) (offsetAt t f k) q .0, at-stored t f k (offsetAt t f k) q .2)
 
 module _ (os : ℕ → ℕ) (n b : ℕ) where
   pub left-start : (from end : ℕ) → Placed os n from end → Left os b from n
@@ -164,13 +168,14 @@ module _ (os : ℕ → ℕ) (n b : ℕ) where
   left-end from end lo limit hi p e h i j g k m = omega (arith, p i (lt-of-lt-of-le g hi) (m .right), h i j g k m)
 
 -- one turn of a search, for the entry's offset o as the code has it
-module _ (os : ℕ → ℕ) (b lo i : ℕ) (cells : List ℕ) (t : Table os b lo i cells) (cl : Clear os b lo i) (o : ℕ) (e : o ≡ os i) where
-  pub put : (c : ℕ) → 0 < b → Inside b lo o → c ≡ (o - lo) / b → c < 16382 → ((s : ℕ) → c ≤ s → s ≤ c + 2 → Near b (getD cells s 0) o → ⊥) → Table os b lo (i + 1) (set cells (c + 1) o) × Clear os b lo (i + 1)
+module _ (os : ℕ → ℕ) (b lo i : ℕ) (cells : List ℕ) (t : Filled os b lo i cells) (cl : Clear os b lo i) (o : ℕ) (e : o ≡ os i) where
+  pub put : (c : ℕ) → 0 < b → Inside b lo o → c ≡ (o - lo) / b → c < 16382 → ((s : ℕ) → c ≤ s → s ≤ c + 2 → Near b (getD cells s 0) o → ⊥)
+      → Filled os b lo (i + 1) (set cells (c + 1) o) × Clear os b lo (i + 1)
   put c pos here is-c small none =
       let none′ : (s : ℕ) → c ≤ s → s ≤ c + 2 → Near b (getD cells s 0) (os i) → ⊥ = λ s g h n. none s g h (rw e n) in
       (rw e (table-put os b lo i cells pos t (rw e at here) c (rw e at is-c) small none′), clear-put os b lo i cells pos t (rw e at here) c (rw e at is-c) small none′ cl)
 
-  pub skip : (Inside b lo o → ⊥) → Table os b lo (i + 1) cells × Clear os b lo (i + 1)
+  pub skip : (Inside b lo o → ⊥) → Filled os b lo (i + 1) cells × Clear os b lo (i + 1)
   skip out = (table-skip os b lo t (λ h. out (rw e h)), clear-skip os b lo cl (λ h. out (rw e h)))
 
   pub stop : (limit : ℕ) → i < limit → (s : ℕ) × Near b (getD cells s 0) o → Scanned os b lo limit i

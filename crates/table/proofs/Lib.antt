@@ -3,4 +3,5 @@ pub mod Words
 pub mod Search
 pub mod Range
 pub mod Overlaps
+pub mod Tables
 pub mod Cells

@@ -9,20 +9,23 @@ use native.Mathlib.Decide.{decLe}
 use native.Mathlib.Omega.{arith}
 use lib.Dec.{ltb}
 use borrow.Author.Tests.{ltb-true, ltb-false, lt-ltb, le-ltb}
+use Rattle.checks.proofs.Described.{both}
 use Rattle.endian.specs.Loops.{first}
 use Rattle.endian.proofs.Search.{clash, first-is, first-le, first-before}
 use Rattle.table.specs.declared.Kind.{Kind}
 use Rattle.table.specs.declared.Kind.the-variants.{Missing, Constant, Stored}
-use Rattle.table.specs.Entries.{kindAt, overlap, overlapsLower, lowestOverlap}
+use Rattle.table.specs.declared.Table.{Table}
+use Rattle.table.specs.Entries.{offsetIn, overlap, overlapsLower, kindAt, overlapsAt}
 use Rattle.table.specs.Windows.{offsetAt, Near}
-use Rattle.table.proofs.Words.{offsetIn, offset-at, at-real}
-use Rattle.table.proofs.Search.{is-false, missed, cut}
-use Rattle.table.proofs.Range.{and-true}
+use Rattle.table.proofs.Words.{at-stored}
+use Rattle.table.proofs.Search.{is-false}
 
 apart-false : (b o p : ℕ) → (o + b ≤ p) ⊎ (p + b ≤ o) → overlap b (Stored o) (Stored p) ≡ false
 unfolding overlap
 apart-false b o p h =
-    is-false (ltb o (p + b) && ltb p (o + b)) (λ e. let q = and-true (ltb o (p + b)) (ltb p (o + b)) e in ⊎-elim (λ (g : o + b ≤ p). omega (arith, ltb-true p (o + b) (q .1))) (λ (g : p + b ≤ o). omega (arith, ltb-true o (p + b) (q .0))) h)
+    is-false (ltb o (p + b) && ltb p (o + b)) (λ e.
+    let q = both (ltb o (p + b)) (ltb p (o + b)) e in
+    ⊎-elim (λ (g : o + b ≤ p). omega (arith, ltb-true p (o + b) (q .1))) (λ (g : p + b ≤ o). omega (arith, ltb-true o (p + b) (q .0))) h)
 
 near-true : (b o p : ℕ) → o < p + b → p < o + b → overlap b (Stored o) (Stored p) ≡ true
 unfolding overlap
@@ -54,38 +57,24 @@ module _ (b : ℕ) (kinds : ℕ → Kind) where
   lower-none e l g no-e =
       first-before (λ l. overlap b (kinds l) (kinds e)) e l (omega (arith, ltb-false (first (λ l. overlap b (kinds l) (kinds e)) e) e no-e))
 
-  module _ (m : ℕ) where
-    pub overlap-le : lowestOverlap b kinds m ≤ m
-    unfolding lowestOverlap
-    overlap-le = first-le _ m
+  -- an entry that passes check 13 is apart from every lower one
+  pub lower-apart : (e : ℕ) → overlapsLower b kinds e ≡ false → (d o p : ℕ) → d < e → kinds d ≡ Stored o → kinds e ≡ Stored p → (o + b ≤ p) ⊎ (p + b ≤ o)
+  lower-apart e no-e d o p g s t = false-apart b o p (rw (s, t) at (lower-none e d g no-e))
 
-    -- where check 13 finds nothing, stored bricks are apart
-    pub overlap-none : lowestOverlap b kinds m ≡ m → (d e : ℕ) → d < e → e < m → (o p : ℕ) → kinds d ≡ Stored o → kinds e ≡ Stored p → (o + b ≤ p) ⊎ (p + b ≤ o)
-    unfolding lowestOverlap
-    overlap-none none d e g h o p s t =
-        false-apart b o p (rw (s, t) at (lower-none e d g (first-before (overlapsLower b kinds) m e (rw none h))))
-
-    -- and where they are apart it finds nothing
-    pub overlap-all : ((d e : ℕ) → d < e → e < m → (o p : ℕ) → kinds d ≡ Stored o → kinds e ≡ Stored p → (o + b ≤ p) ⊎ (p + b ≤ o)) → lowestOverlap b kinds m ≡ m
-    unfolding lowestOverlap overlap
-    overlap-all all =
-        sym (missed (overlapsLower b kinds) m m refl (λ e h. lower-no e (λ d g. go (kinds d) (kinds e) (all d e g h))))
-      where
-        go : (k l : Kind) → ((o p : ℕ) → k ≡ Stored o → l ≡ Stored p → (o + b ≤ p) ⊎ (p + b ≤ o)) → overlap b k l ≡ false
-        go Missing l f = refl
-        go (Constant v) l f = refl
-        go (Stored o) Missing f = refl
-        go (Stored o) (Constant v) f = refl
-        go (Stored o) (Stored p) f = apart-false b o p (f o p refl refl)
-
-    -- entries after one that overlaps a lower one do not count
-    pub overlap-cut : (r : ℕ) → r ≤ m → (r < m → overlapsLower b kinds r ≡ true) → lowestOverlap b kinds r ≡ lowestOverlap b kinds m
-    unfolding lowestOverlap
-    overlap-cut r = cut (overlapsLower b kinds) m r
+  -- and one that is apart passes it
+  pub lower-passes : (e : ℕ) → ((d o p : ℕ) → d < e → kinds d ≡ Stored o → kinds e ≡ Stored p → (o + b ≤ p) ⊎ (p + b ≤ o)) → overlapsLower b kinds e ≡ false
+  unfolding overlap
+  lower-passes e all = lower-no e (λ d g. go (kinds d) (kinds e) (λ o p. all d o p g))
+    where
+      go : (k l : Kind) → ((o p : ℕ) → k ≡ Stored o → l ≡ Stored p → (o + b ≤ p) ⊎ (p + b ≤ o)) → overlap b k l ≡ false
+      go Missing l f = refl
+      go (Constant v) l f = refl
+      go (Stored o) Missing f = refl
+      go (Stored o) (Constant v) f = refl
+      go (Stored o) (Stored p) f = apart-false b o p (f o p refl refl)
 
 -- the test on kinds and the fact on offsets
 near-test : (b : ℕ) (k l : Kind) → Near b (offsetIn k) (offsetIn l) → overlap b k l ≡ true
-unfolding offsetIn
 near-test b Missing l n = absurd (omega (arith, n .left))
 near-test b (Constant v) l n = absurd (omega (arith, n .left))
 near-test b (Stored o) Missing n = absurd (omega (arith, n .right))
@@ -93,28 +82,35 @@ near-test b (Stored o) (Constant v) n = absurd (omega (arith, n .right))
 near-test b (Stored o) (Stored p) n = near-true b o p (n .below) (n .above)
 
 near-fact : (b : ℕ) (k l : Kind) → ((o : ℕ) → k ≡ Stored o → 0 < o) → ((o : ℕ) → l ≡ Stored o → 0 < o) → overlap b k l ≡ true → Near b (offsetIn k) (offsetIn l)
-unfolding offsetIn overlap
+unfolding overlap
 near-fact b Missing l f g e = clash false e refl
 near-fact b (Constant v) l f g e = clash false e refl
 near-fact b (Stored o) Missing f g e = clash false e refl
 near-fact b (Stored o) (Constant v) f g e = clash false e refl
 near-fact b (Stored o) (Stored p) f g e =
-    let q = and-true (ltb o (p + b)) (ltb p (o + b)) e in
+    let q = both (ltb o (p + b)) (ltb p (o + b)) e in
     record { left = f o refl; right = g p refl; below = ltb-true o (p + b) (q .0); above = ltb-true p (o + b) (q .1) }
 
 -- check 13 over the table's offsets
-module _ (w : ℕ) (f : List ℕ) (t b : ℕ) where
-  pub near-no : (l e : ℕ) → (Near b (offsetAt f t l) (offsetAt f t e) → ⊥) → overlap b (kindAt w f t l) (kindAt w f t e) ≡ false
-  near-no l e h = is-false (overlap b (kindAt w f t l) (kindAt w f t e)) (λ q. h (rw (offset-at w f t l, offset-at w f t e) at (near-fact b (kindAt w f t l) (kindAt w f t e) (at-real w f t l) (at-real w f t e) q)))
+module _ (t : Table) (f : List ℕ) where
+  pub near-no : (l e : ℕ) → (Near (t .brick) (offsetAt t f l) (offsetAt t f e) → ⊥) → overlap (t .brick) (kindAt t f l) (kindAt t f e) ≡ false
+  unfolding offsetAt
+  near-no l e h =
+      is-false (overlap (t .brick) (kindAt t f l) (kindAt t f e)) (λ q. h (near-fact (t .brick) (kindAt t f l) (kindAt t f e) (real l) (real e) q))
+    where
+      real : (i o : ℕ) → kindAt t f i ≡ Stored o → 0 < o
+      real i o s = omega (arith, at-stored t f i o s)
 
-  pub near-yes : (l e : ℕ) → Near b (offsetAt f t l) (offsetAt f t e) → overlap b (kindAt w f t l) (kindAt w f t e) ≡ true
-  near-yes l e n = near-test b (kindAt w f t l) (kindAt w f t e) (rw (offset-at w f t l, offset-at w f t e) n)
+  pub none-lower : (e : ℕ) → ((l : ℕ) → l < e → Near (t .brick) (offsetAt t f l) (offsetAt t f e) → ⊥) → overlapsAt t f e ≡ false
+  unfolding overlapsAt
+  none-lower e h = lower-no (t .brick) (kindAt t f) e (λ l g. near-no l e (h l g))
 
-  pub hit-yes : (e : ℕ) → (l : ℕ) × (l < e) × Near b (offsetAt f t l) (offsetAt f t e) → overlapsLower b (kindAt w f t) e ≡ true
-  hit-yes e h = lower-yes b (kindAt w f t) e (h .0) (h .1) (near-yes (h .0) e (h .2))
+  pub hit-yes : (e : ℕ) → (l : ℕ) × (l < e) × Near (t .brick) (offsetAt t f l) (offsetAt t f e) → overlapsAt t f e ≡ true
+  unfolding overlapsAt offsetAt
+  hit-yes e h = lower-yes (t .brick) (kindAt t f) e (h .0) (h .1) (near-test (t .brick) (kindAt t f (h .0)) (kindAt t f e) (h .2))
 
   -- the lowest overlap, by its two properties
-  pub lowest-is : (m r : ℕ) → r ≤ m → ((e l : ℕ) → e < r → l < e → Near b (offsetAt f t l) (offsetAt f t e) → ⊥) → (r < m → (l : ℕ) × (l < r) × Near b (offsetAt f t l) (offsetAt f t r)) → r ≡ lowestOverlap b (kindAt w f t) m
-  unfolding lowestOverlap
+  pub lowest-is : (m r : ℕ) → r ≤ m → ((e l : ℕ) → e < r → l < e → Near (t .brick) (offsetAt t f l) (offsetAt t f e) → ⊥)
+      → (r < m → (l : ℕ) × (l < r) × Near (t .brick) (offsetAt t f l) (offsetAt t f r)) → r ≡ first (overlapsAt t f) m
   lowest-is m r hi no-e yes-r =
-      sym (first-is (overlapsLower b (kindAt w f t)) m r hi (λ e g. lower-no b (kindAt w f t) e (λ l k. near-no l e (no-e e l g k))) (λ g. hit-yes r (yes-r g)))
+      sym (first-is (overlapsAt t f) m r hi (λ e g. none-lower e (λ l. no-e e l g)) (λ g. hit-yes r (yes-r g)))

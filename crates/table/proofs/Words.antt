@@ -7,13 +7,13 @@ use native.Mathlib.Decide.{ℕ-discrete, decLe}
 use native.Mathlib.Nat.{mod-lt, one-le-pow}
 use native.Mathlib.Omega.{arith}
 use lib.ListN.{getD}
-use borrow.Author.Tests.{lt-ltb, le-ltb, le-leb, lt-leb, eq-eqb, ne-eqb}
-use Rattle.endian.specs.Bytes.{le}
+use borrow.Author.Tests.{le-leb, lt-leb, eq-eqb, ne-eqb}
 use Rattle.endian.proofs.Bytes.{le-same}
 use Rattle.table.specs.declared.Kind.{Kind}
 use Rattle.table.specs.declared.Kind.the-variants.{Missing, Constant, Stored}
-use Rattle.table.specs.Entries.{kindOf, kindAt}
-use Rattle.table.specs.Windows.{Width, offsetOf, offsetAt}
+use Rattle.table.specs.declared.Table.{Table}
+use Rattle.table.specs.Entries.{kindOf, offsetIn, wordAt, kindAt, Width}
+use Rattle.table.specs.Windows.{offsetAt}
 
 pub other-width : (w : ℕ) → Width w → (w ≡ 1 → ⊥) → (w ≡ 2 → ⊥) → w ≡ 4
 other-width w h not-1 not-2 =
@@ -59,74 +59,35 @@ kind-stored w v o e =
     (λ h. absurd (not-constant (v % 256 ^ w) o (sym (kind-constant w v h) ∙ e)))
     (λ lo hi. let q = same-offset v o (sym (kind-offset w v lo hi) ∙ e) in (q, omega arith, omega arith))
 
--- an entry depends on its own 8 bytes alone
-pub kind-same : (w : ℕ) (f g : List ℕ) (t e : ℕ) → ((i : ℕ) → t + 8 * e ≤ i → i < t + 8 * e + 8 → getD f i 0 ≡ getD g i 0) → kindAt w f t e ≡ kindAt w g t e
-unfolding kindAt
-kind-same w f g t e same = ap (kindOf w) (le-same 8 f g (t + 8 * e) same)
-
-pub offset-low : (v : ℕ) → v ≤ 1 → offsetOf v ≡ 0
-unfolding offsetOf
-offset-low v h = simp (le-ltb 1 v h)
-
-pub offset-high : (v : ℕ) → 2 ^ 63 ≤ v → offsetOf v ≡ 0
-unfolding offsetOf
-offset-high v h = simp (lt-ltb 1 v (omega arith), le-ltb v (2 ^ 63) h)
-
-pub offset-stored : (v : ℕ) → 2 ≤ v → v < 2 ^ 63 → offsetOf v ≡ v
-unfolding offsetOf
-offset-stored v lo hi = simp (lt-ltb 1 v lo, lt-ltb v (2 ^ 63) hi)
-
--- the offset in a kind, or 0 where the brick is not stored
-unfoldable pub offsetIn : Kind → ℕ
-offsetIn Missing = 0
-offsetIn (Constant v) = 0
-offsetIn (Stored o) = o
-
-pub offset-kind : (w v : ℕ) → offsetIn (kindOf w v) ≡ offsetOf v
-unfolding offsetIn
-offset-kind w v =
-    words v
-    (λ z. ap offsetIn (kind-missing w v z) ∙ sym (offset-low v (omega arith)))
-    (λ z. ap offsetIn (kind-zero w v z) ∙ sym (offset-low v (omega arith)))
-    (λ h. ap offsetIn (kind-constant w v h) ∙ sym (offset-high v h))
-    (λ lo hi. ap offsetIn (kind-offset w v lo hi) ∙ sym (offset-stored v lo hi))
-
-pub offset-at : (w : ℕ) (f : List ℕ) (t e : ℕ) → offsetIn (kindAt w f t e) ≡ offsetAt f t e
-unfolding kindAt offsetAt
-offset-at w f t e = offset-kind w (le 8 f (t + 8 * e))
-
+-- the offset in a kind, where it is one of a stored brick
 in-stored : (k : Kind) → 0 < offsetIn k → k ≡ Stored (offsetIn k)
-unfolding offsetIn
 in-stored Missing h = absurd (omega arith)
 in-stored (Constant v) h = absurd (omega arith)
 in-stored (Stored o) h = refl
 
--- a word that has an offset names the brick stored there
-pub word-stored : (w v o : ℕ) → o ≡ offsetOf v → 0 < o → kindOf w v ≡ Stored o
-word-stored w v o e h =
-    let q : offsetIn (kindOf w v) ≡ o = offset-kind w v ∙ sym e in
-    in-stored (kindOf w v) (rw q h) ∙ ap Stored q
+-- an entry of a table
+module _ (t : Table) (f : List ℕ) (e : ℕ) where
+  -- its word is its offset, at least 2 and below 2 ^ 63
+  pub at-stored : (o : ℕ) → kindAt t f e ≡ Stored o → (wordAt t f e ≡ o) × (2 ≤ o) × (o < 2 ^ 63)
+  unfolding kindAt
+  at-stored = kind-stored (t .width) (wordAt t f e)
 
--- the entry, as it is loaded
-pub kind-loaded : (w : ℕ) (f : List ℕ) (t e v : ℕ) → v ≡ le 8 f (t + 8 * e) → kindOf w v ≡ kindAt w f t e
-unfolding kindAt
-kind-loaded w f t e v q = ap (kindOf w) q
+  pub offset-kind : (k : Kind) → kindAt t f e ≡ k → offsetIn k ≡ offsetAt t f e
+  unfolding offsetAt
+  offset-kind k s = ap offsetIn (sym s)
 
--- no stored brick has the offset 0
-pub kind-real : (w v o : ℕ) → kindOf w v ≡ Stored o → 0 < o
-kind-real w v o e = omega (arith, kind-stored w v o e)
+  pub offset-stored : 0 < offsetAt t f e → kindAt t f e ≡ Stored (offsetAt t f e)
+  unfolding offsetAt
+  offset-stored = in-stored (kindAt t f e)
 
-pub at-real : (w : ℕ) (f : List ℕ) (t e o : ℕ) → kindAt w f t e ≡ Stored o → 0 < o
-unfolding kindAt
-at-real w f t e = kind-real w (le 8 f (t + 8 * e))
+  -- it depends on its own 8 bytes alone
+  pub word-same : (g : List ℕ) → ((i : ℕ) → t .start + 8 * e ≤ i → i < t .start + 8 * e + 8 → getD f i 0 ≡ getD g i 0) → wordAt t f e ≡ wordAt t g e
+  unfolding wordAt
+  word-same g same = le-same 8 f g (t .start + 8 * e) same
 
-pub at-stored : (w : ℕ) (f : List ℕ) (t e : ℕ) → 0 < offsetAt f t e → kindAt w f t e ≡ Stored (offsetAt f t e)
-unfolding kindAt offsetAt
-at-stored w f t e = word-stored w (le 8 f (t + 8 * e)) (offsetOf (le 8 f (t + 8 * e))) refl
-
-pub at-below : (f : List ℕ) (t e : ℕ) → 0 < offsetAt f t e → offsetAt f t e < 2 ^ 63
-unfolding offsetAt
-at-below f t e h = kind-stored 1 (le 8 f (t + 8 * e)) _ (word-stored 1 (le 8 f (t + 8 * e)) _ refl h) .2
+  pub kind-same : (g : List ℕ) → ((i : ℕ) → t .start + 8 * e ≤ i → i < t .start + 8 * e + 8 → getD f i 0 ≡ getD g i 0) → kindAt t f e ≡ kindAt t g e
+  unfolding kindAt
+  kind-same g same = ap (kindOf (t .width)) (word-same g same)
 
 -- a constant's number is one of its item's bytes
 missing-not : (c : ℕ) → Missing ≡ Constant c → ⊥
@@ -146,3 +107,7 @@ constant-fits w v c e =
     (λ z. rw (← same-constant 0 c (sym (kind-zero w v z) ∙ e)) p)
     (λ h. rw (← same-constant (v % 256 ^ w) c (sym (kind-constant w v h) ∙ e)) (mod-lt v p))
     (λ lo hi. absurd (not-stored v c (sym (kind-offset w v lo hi) ∙ e)))
+
+pub at-narrow : (t : Table) (f : List ℕ) (e c : ℕ) → kindAt t f e ≡ Constant c → c < 256 ^ t .width
+unfolding kindAt
+at-narrow t f e = constant-fits (t .width) (wordAt t f e)

@@ -1,25 +1,16 @@
--- Item widths, offsets of entries, and the parts of check 13, which searches one window of the file after the other.
+-- The search for check 13, window by window: what the contracts of private functions cite, and nothing else does.
 -- A window is 16,382 bricks long; a brick has b bytes, and `os e` is the offset of entry e, or 0 where it is not stored.
-use mathlib.Core.Bool.{Bool, true, false, cond}
+use mathlib.Core.Bool.{Bool, true, false}
 use mathlib.Core.List.{List}
-use mathlib.Core.Logic.{_⊎_}
 use mathlib.Core.Path.{_≡_}
-use Prim.Native.Nat.{ℕ, _+_, _*_, _^_, _≤_, _<_, min}
-use lib.Dec.{ltb}
+use Prim.Native.Nat.{ℕ, _+_, _*_, _≤_, _<_, min}
 use lib.ListN.{getD}
-use Rattle.endian.specs.Bytes.{le}
+use Rattle.table.specs.declared.Table.{Table}
+use Rattle.table.specs.Entries.{kindAt, offsetIn}
 
--- an item has 1, 2 or 4 bytes
-abbrev pub Width : ℕ → Type 0
-Width w = (w ≡ 1) ⊎ ((w ≡ 2) ⊎ (w ≡ 4))
-
--- the offset that the entry v names, or 0 where it names none
-unfoldable pub offsetOf : ℕ → ℕ
-offsetOf v = cond (ltb 1 v) (cond (ltb v (2 ^ 63)) v 0) 0
-
--- the offset of entry e, of the table that starts at t in the file f
-unfoldable pub offsetAt : List ℕ → ℕ → ℕ → ℕ
-offsetAt f t e = offsetOf (le 8 f (t + 8 * e))
+-- the offset of entry e
+unfoldable pub offsetAt : Table → List ℕ → ℕ → ℕ
+offsetAt t f e = offsetIn (kindAt t f e)
 
 -- r says whether P holds
 pub record Decides (P : Type 0) (r : Bool) : Type 0 where

@@ -1,12 +1,15 @@
--- Laws of numbers in decimal: a number of one digit, and of more. Assumes nothing.
+-- Laws of numbers in decimal: a number of one digit, of more, and a signed one. Assumes nothing.
 use mathlib.Core.Bool.{Bool, true, false}
 use mathlib.Core.List.{List, [], _∷_, _++_}
 use mathlib.Core.Path.{_≡_, refl, sym, ap, _∙_}
-use Prim.Native.Nat.{ℕ, zero, suc, _+_, _-_, _/_, _^_, _≤_, _<_}
+use Prim.Native.Nat.{ℕ, zero, suc, _-_, _*_, _/_, _^_, _≤_, _<_}
 use native.Mathlib.Nat.{pow-suc}
 use native.Mathlib.Omega.{arith}
 use lib.Dec.{ltb}
+use lib.IntN.{pos, negℤ}
 use borrow.Author.Tests.{lt-ltb, le-ltb, ltb-true, ltb-false}
+use Rattle.floats.specs.Rules.{signedOf}
+use Rattle.floats.proofs.Sums.{less, more}
 use Rattle.text.specs.Text.{digit, digits, decimal, signedDecimal}
 
 digits-short : (k n : ℕ) → n < 10 → digits k n ≡ digit n ∷ []
@@ -38,10 +41,19 @@ pub decimal-long : (n : ℕ) → 10 ≤ n → n < 2 ^ 64 → decimal n ≡ decim
 unfolding decimal
 decimal-long n l h = digits-long 18 n l ∙ ap (λ (ds : List ℕ). ds ++ (digit n ∷ [])) (sym (digits-room 18 (n / 10) (omega arith)))
 
-pub signed-positive : (h n : ℕ) → n < h → signedDecimal h n ≡ decimal n
+-- ---- the signed number that n stands for
+pub signed-positive : (h n : ℕ) → n < h → signedDecimal (signedOf h n) ≡ decimal n
 unfolding signedDecimal
 signed-positive h n l = rw (lt-ltb n h l)
 
-pub signed-negative : (h n : ℕ) → h ≤ n → signedDecimal h n ≡ 45 ∷ decimal (h + h - n)
+pub signed-past : (h n : ℕ) → h ≤ n → 2 * h ≤ n → signedDecimal (signedOf h n) ≡ decimal (n - 2 * h)
 unfolding signedDecimal
-signed-negative h n l = rw (le-ltb n h l)
+signed-past h n l m = rw (le-ltb n h l, less n (2 * h) m)
+
+pub signed-negative : (h n : ℕ) → h ≤ n → n < 2 * h → signedDecimal (signedOf h n) ≡ 45 ∷ decimal (2 * h - n)
+unfolding signedDecimal
+signed-negative h n l m = rw (le-ltb n h l, more n (2 * h) (omega arith)) (go (2 * h - n) (omega arith))
+  where
+    go : (k : ℕ) → 0 < k → signedDecimal (negℤ (pos k)) ≡ 45 ∷ decimal k
+    go zero p = absurd (omega arith)
+    go (suc k) p = refl

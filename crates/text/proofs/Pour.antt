@@ -91,6 +91,3 @@ poured-byte bs i h p e = rw (add-one, take-suc bs i 0 h) (poured-step p e)
 -- out is d with acc poured from place 0 on, and at is the place after it
 abbrev pub Poured : List ℕ → List ℕ → List ℕ → ℕ → Type 0
 Poured d acc out at = Pours d 0 acc out at
-
-pub poured-start : (d : List ℕ) → Poured d [] d 0
-poured-start d = poured-none d 0 (omega arith)

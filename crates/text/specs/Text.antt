@@ -3,10 +3,12 @@ use mathlib.Core.Bool.{cond}
 use mathlib.Core.List.{List, [], _∷_, _++_}
 use mathlib.Core.Path.{_≡_, refl}
 use Prim.Native.Char.{code}
-use Prim.Native.Nat.{ℕ, zero, suc, _+_, _-_, _/_, _%_, min}
+use Prim.Native.Nat.{ℕ, zero, suc, _+_, _/_, _%_, min}
 use Prim.Native.String.{String, [] as none, _∷_ as _then_}
 use lib.Dec.{ltb}
+use lib.IntN.{ℤ, pos, negsuc}
 use lib.ListN.{length, take, drop}
+use Rattle.floats.specs.Rules.{signedOf}
 
 -- out with the bytes bs from place a on; what does not fit is left out
 unfoldable pub poured : List ℕ → ℕ → List ℕ → List ℕ
@@ -34,9 +36,10 @@ digits (suc k) n = cond (ltb n 10) (digit n ∷ []) (digits k (n / 10) ++ (digit
 unfoldable pub decimal : ℕ → List ℕ
 decimal n = digits 19 n
 
--- the signed number of an integer type, lowest -h and highest h - 1, that n < h + h stands for, in decimal, with a minus sign (45) where it is below zero
-unfoldable pub signedDecimal : ℕ → ℕ → List ℕ
-signedDecimal h n = cond (ltb n h) (decimal n) (45 ∷ decimal (h + h - n))
+-- an integer in decimal, with a minus sign (45) where it is below zero
+unfoldable pub signedDecimal : ℤ → List ℕ
+signedDecimal (pos n) = decimal n
+signedDecimal (negsuc n) = 45 ∷ decimal (suc n)
 
 -- the bytes of an ASCII text: the code of each of its characters
 abbrev pub bytesOf : String → List ℕ
@@ -51,7 +54,7 @@ highest : decimal 18446744073709551615 ≡ bytesOf "18446744073709551615"
 unfolding decimal digits
 highest = refl
 
-lowest : signedDecimal 128 128 ≡ bytesOf "-128"
+lowest : signedDecimal (signedOf 128 128) ≡ bytesOf "-128"
 unfolding signedDecimal decimal digits
 lowest = refl
 

@@ -5,7 +5,8 @@
 
 ghost use mathlib.Core.Path.{_≡_};
 ghost use mathlib.Core.List.{_∷_, []};
-ghost use Prim.Native.Nat.{_+_, _-_, min};
+ghost use Prim.Native.Nat.{min};
+ghost use Rattle.floats.specs.Rules.{signedOf};
 ghost use Rattle.text.specs.Text.{Pours, decimal, signedDecimal};
 
 // One byte.
@@ -53,24 +54,19 @@ pub fn push_decimal(out: &mut [u8], at: usize, n: u64) -> usize
     }
 }
 
-// How far below zero the signed number is that `n` stands for: twice `half` less `n`.
-fn below_zero(n: u32, half: u32) -> u64
-    ensures { λ r. ⌜ r ≡ half + half - n ⌝ }
-{
-    let whole = half as u64 + half as u64;
-    let bits = n as u64;
-    if bits < whole { whole - bits } else { 0 }
-}
-
-// A signed number in decimal. It comes as `n`, its bits read as an unsigned number, with `half` the
-// bits of the lowest number of its type: 128 for one byte.
+// The signed number of an integer type in decimal, as an item's bytes have it: n is their unsigned number, and half is 128 for one
+// byte. Of n below twice half, those from half on are below zero.
 pub fn push_signed(out: &mut [u8], at: usize, n: u32, half: u32) -> usize
-    ensures { λ r. ⌜ Pours (now (out .entry)) at (signedDecimal half n) (now (out .exit)) r ⌝ }
+    ensures { λ r. ⌜ Pours (now (out .entry)) at (signedDecimal (signedOf half n)) (now (out .exit)) r ⌝ }
 {
+    let whole = 2 * half as u64;
+    let bits = n as u64;
     if n < half {
-        push_decimal(out, at, n as u64)
-    } else {
-        let next = push(out, at, b'-');
-        push_decimal(out, next, below_zero(n, half))
+        return push_decimal(out, at, bits);
     }
+    if whole <= bits {
+        return push_decimal(out, at, bits - whole);
+    }
+    let next = push(out, at, b'-');
+    push_decimal(out, next, whole - bits)
 }

@@ -33,9 +33,15 @@ use reading::read_raw;
 use record::Description;
 use record::Done;
 use record::Record;
+use record::Verdict;
 use sampling::read_float;
-use strings::string_at;
-use strings::strings_verdict;
+use strings::Strings;
+use strings::Turn;
+use strings::moved;
+use strings::next;
+use strings::string;
+use strings::strings_of;
+use strings::turn_of;
 use subtiles::to_plain;
 use subtiles::to_subtiled;
 use writing::write;
@@ -166,15 +172,50 @@ pub fn say_position(r: Record, dimension: u32, index: u32) {
     end_line();
 }
 
-fn say_text(bytes: &[u8]) {
-    say_number(bytes.len() as u64);
+fn say_turn(turn: Turn) {
+    match turn {
+        Turn::Item { start, end, next } => {
+            say(b" item");
+            say_number(start as u64);
+            say_number(end as u64);
+            say_number(next as u64);
+        }
+        Turn::Done => say(b" done"),
+        Turn::Refused(refusal) => say_refusal(refusal),
+    }
     end_line();
-    say_lines(bytes);
 }
 
 pub fn say_string(file: &[u8], r: Record, n: u32) {
-    say_verdict(strings_verdict(file, r));
-    say_text(string_at(file, r, n));
+    say_turn(turn_of(file, r, n));
+}
+
+// A turn's line, with the walker's verdict, and its string. Answers where the walker stands after it.
+fn say_handed(verdict: Verdict, turn: Turn, bytes: &[u8], at: usize) -> usize {
+    say_verdict(verdict);
+    say_turn(turn);
+    say_lines(bytes);
+    match turn {
+        Turn::Item {
+            start: _,
+            end: _,
+            next,
+        } => next,
+        _ => at,
+    }
+}
+
+// A walker after one turn.
+fn walked<'a>(w: Strings<'a>) -> Strings<'a> {
+    let turn = next(w);
+    let bytes = string(w);
+    let at = say_handed(w.verdict, turn, bytes, w.at);
+    moved(w, at)
+}
+
+// The strings of a cube by a walker: five turns hand them out, and the sixth says done.
+pub fn say_strings<'a>(file: &'a [u8], r: Record) {
+    walked(walked(walked(walked(walked(walked(strings_of(file, r)))))));
 }
 
 fn permuted(buffer: &mut [u8], brick: &[u8], side: [u32; 3], width: u32, plain: bool) -> Done {

@@ -32,7 +32,7 @@ pub fn say_hash(hash: u64) {
     io::print_hex(STDOUT_FILENO, hash, 16);
 }
 
-// A float as its bits. What the bits of a NaN are is not told here.
+// A float as its bits. Of a NaN a proved program sees only that it is one: `to_bits` asks for a float that is none.
 pub fn say_float(x: f64) {
     if x == x {
         io::print_hex(STDOUT_FILENO, bits_of(x), 16);

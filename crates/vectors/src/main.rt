@@ -13,6 +13,7 @@ use answers::say_permuted;
 use answers::say_position;
 use answers::say_raw;
 use answers::say_string;
+use answers::say_strings;
 use answers::say_view;
 use answers::say_write;
 use buffers::HELD;
@@ -127,6 +128,10 @@ fn say_name(which: u32) -> usize {
             say(b"lend");
             1
         }
+        15 => {
+            say(b"strings");
+            0
+        }
         _ => {
             say(b"field");
             4
@@ -160,6 +165,7 @@ fn answer(file: &[u8], s: Setting, c: Call) {
         5 => say_position(s.record, words[0], words[1]),
         6 => say_string(file, s.record, words[0]),
         7 => say_permuted(words, s.seed, true),
+        15 => say_strings(file, s.record),
         _ => say_permuted(words, s.seed, false),
     }
 }
@@ -235,7 +241,7 @@ fn step(held: &mut [u8], s: Setting, c: Call) -> Setting {
     let count = say_name(which);
     say_words(words, count);
     match which {
-        0..=3 | 5..=8 => {
+        0..=3 | 5..=8 | 15 => {
             say(b":");
             answer_lent(held, s, c);
             s

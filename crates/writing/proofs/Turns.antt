@@ -1,5 +1,5 @@
 -- The turns of the loops of a write: what the calls of a turn answered comes in as equations. Assumes nothing.
-use Prim.Native.Nat.{ℕ, zero, suc, _+_, _-_, _*_, _≤_, _<_, zero-le}
+use Prim.Native.Nat.{ℕ, _+_, _-_, _*_, _≤_, _<_, zero-le}
 use mathlib.Core.Path.{_≡_, refl, sym, ap, subst, _∙_}
 use mathlib.Core.List.{List}
 use native.Mathlib.Omega.{arith}
@@ -15,8 +15,9 @@ use Rattle.endian.proofs.Digits.{next-item}
 use Rattle.record.specs.declared.Record.{Record}
 use Rattle.cube.specs.declared.Region.{Region}
 use Rattle.cube.specs.Places.{itemBytes, kindIn, brickOf, itemNo, byteOf}
-use Rattle.cube.specs.Regions.{runOf, place, sizeOf, offsetIn}
-use Rattle.endian.proofs.Cats.{up-add}
+use Rattle.table.specs.Entries.{offsetIn}
+use Rattle.cube.specs.Regions.{runOf, place, sizeOf}
+use Rattle.endian.proofs.Cats.{up-add, up-same}
 use Rattle.endian.proofs.Puts.{length-peek}
 use Rattle.cube.proofs.Places.{brick-lt, byte-above}
 use Rattle.cube.proofs.Regions.{Held}
@@ -28,11 +29,6 @@ use Rattle.writing.specs.Writes.{sampleTo, Writable}
 use Rattle.writing.proofs.Keeps.{fit-in, covers-all}
 
 module _ {A : Type 0} where
-  pub up-same : (n : ℕ) (g h : ℕ → A → A) (s : A) → ((i : ℕ) → i < n → (x : A) → g i x ≡ h i x) → up n g s ≡ up n h s
-  unfolding up
-  up-same zero g h s e = refl
-  up-same (suc n) g h s e = ap (g n) (up-same n g h s (λ i l. e i (le-step l))) ∙ e n (le-refl (suc n)) (up n h s)
-
   pub up-more : (n : ℕ) (h : ℕ → A → A) (s : A) → up (n + 1) h s ≡ h n (up n h s)
   unfolding up
   up-more n h s = rw add-one
@@ -69,10 +65,10 @@ module _ (r : Record) (f : List ℕ) (g : Region) (q : Lattice) (d : List ℕ) (
       (tri (runOf g 1) (runOf g 2) i j k) c (s .brick) (omega (arith, add-mul (itemNo r (place g i j k)) c (itemBytes r), in-brick)) (in-input l))
       ∙ up-same c _ _ f (λ t l′ x. rw add-assoc)
 
-  module _ (l : k + c ≤ runOf g 2) (o m w a : ℕ) (eo : o ≡ offsetIn r (kindIn r f (brickOf r (place g i j k)))) (em : m ≡ itemNo r (place g i j k)) (ew : w ≡ itemBytes r)
+  module _ (l : k + c ≤ runOf g 2) (o m w a : ℕ) (eo : o ≡ offsetIn (kindIn r f (brickOf r (place g i j k)))) (em : m ≡ itemNo r (place g i j k)) (ew : w ≡ itemBytes r)
       (ea : a ≡ tri (runOf g 1) (runOf g 2) i j k * w) where
     offset-is : o ≡ held .offset
-    offset-is = eo ∙ ap (offsetIn r) (held .at-offset)
+    offset-is = eo ∙ ap offsetIn (held .at-offset)
 
     -- what a turn asks of the file and of the input
     pub turn-fits : (o + (m + c) * w ≤ length f) × (a + c * w ≤ length d)

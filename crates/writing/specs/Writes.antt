@@ -1,4 +1,4 @@
--- The parts of a region's write, and what they may rely on. d is the input.
+-- For the private functions of writing alone: the parts of a region's write, and what they may rely on. d is the input.
 use mathlib.Core.List.{List}
 use mathlib.Core.Path.{_≡_}
 use Prim.Native.Nat.{ℕ, _*_, _≤_, _<_}

@@ -20,8 +20,9 @@ ghost use Rattle.endian.specs.Loops.{tri};
 ghost use Rattle.endian.specs.Bytes.{peek, put};
 ghost use Rattle.record.specs.declared.Verdict.the-variants.{Taken};
 ghost use Rattle.cube.specs.Places.{itemBytes, kindIn, brickOf};
-ghost use Rattle.record.specs.Answers.{doneOf};
-ghost use Rattle.cube.specs.Regions.{runOf, place, sizeOf, offsetIn, written, writeVerdict, after};
+ghost use Rattle.cube.specs.Calls.{Call, answerOf, cubeAfter};
+ghost use Rattle.table.specs.Entries.{offsetIn};
+ghost use Rattle.cube.specs.Regions.{runOf, place, sizeOf, written, writeVerdict};
 ghost use Rattle.runs.specs.Runs.{Placed};
 ghost use Rattle.writing.specs.Writes.{runTo, planeTo, Writable};
 
@@ -29,7 +30,7 @@ ghost use Rattle.writing.specs.Writes.{runTo, planeTo, Writable};
 fn offset_on(file: &[u8], r: Record, g: Region, q: Lattice, i: usize, j: usize, k: usize) -> u64
     requires { ⌜ Placed r g q i j k ⌝ }
     requires { ⌜ r .length ≡ length (now file) ⌝ }
-    ensures { λ o. ⌜ o ≡ offsetIn r (kindIn r (now (file .entry)) (brickOf r (place g i j k))) ⌝ }
+    ensures { λ o. ⌜ o ≡ offsetIn (kindIn r (now (file .entry)) (brickOf r (place g i j k))) ⌝ }
 {
     let kind = kind_on(file, r, g, q, i, j, k);
     match kind {
@@ -149,8 +150,8 @@ fn write_region(file: &mut [u8], input: &[u8], r: Record, g: Region) -> usize
 
 // Writes a region of samples from lent bytes. A refused call changes nothing.
 pub fn write(file: &mut [u8], input: &[u8], r: Record, g: Region) -> Done
-    ensures answer { λ a. ⌜ a ≡ doneOf (writeVerdict r (now (file .entry)) g (length (now (input .entry)))) (sizeOf g * itemBytes r) ⌝ }
-    ensures cube { λ _. ⌜ now (file .exit) ≡ after (writeVerdict r (now (file .entry)) g (length (now (input .entry)))) (written r g (now (input .entry)) (now (file .entry))) (now (file .entry)) ⌝ }
+    ensures answer { λ a. ⌜ a ≡ answerOf r (now (file .entry)) (Call.write g (now (input .entry))) ⌝ }
+    ensures cube { λ _. ⌜ now (file .exit) ≡ cubeAfter r (now (file .entry)) (Call.write g (now (input .entry))) ⌝ }
 {
     let verdict = write_verdict(file, r, g, input.len());
     match verdict {

@@ -3,7 +3,7 @@
 use Prim.Native.Nat.{ℕ, suc, zero}
 use mathlib.Core.Path.{_≡_, refl}
 use mathlib.Core.Bool.{Bool, true, _&&_}
-use mathlib.Core.List.{List, [], _∷_, _++_}
+use mathlib.Core.List.{List, [], _∷_, _++_, map}
 use native.Mathlib.Omega.{arith}
 use lib.Dec.{ltb}
 use lib.Ieee.{Float, binary64, ofBits, toBits, fits, isNan, lt, add, sub, mul, div, ofInt}
@@ -18,19 +18,19 @@ use Rattle.record.specs.Types.{codingOf, widthOf, decodeOf}
 use Rattle.record.specs.Header.{versionOf, descriptionOf, textLengthOf}
 use Rattle.record.specs.Record.{levelsOf, bricksOf, alphasOf, brickBytesOf, tableOf, headerOf, gridOf, recordOf}
 use Rattle.record.specs.declared.Record.{Record}
+use Rattle.record.specs.declared.Done.the-variants.{Taken, Refused}
 use Rattle.record.specs.declared.Verdict.the-variants as verdict
 use Rattle.checks.specs.Checks.{breaks2, breaks3, sideOk, breaks4, breaks5, sizeOk, breaks6, breaks7, breaks8, breaks9, zeros, breaks11, described}
 use Rattle.checks.specs.Fits.{gridFits, numbersFit, recordFits, breaks14With}
 use Rattle.checks.proofs.Described.{both}
-use Rattle.table.specs.Entries.{kindOf, kindAt, outOfRange, lowestOutOfRange, overlap, overlapsLower, lowestOverlap}
-use Rattle.opening.specs.Opening.{entriesVerdict, bodyVerdict, headerVerdict, openVerdict, recordIn}
+use Rattle.table.specs.Entries.{kindOf, wordAt, kindAt, outOfRange, outsideAt, overlap, overlapsLower, overlapsAt, tableIn, kindIn, breaks12, breaks13}
+use Rattle.opening.specs.Opening.{lengthVerdict, textVerdict, rangeVerdict, overlapVerdict, entriesVerdict, bodyVerdict, headerVerdict, openVerdict, recordIn}
 use Rattle.cube.specs.declared.Region.{Region}
-use Rattle.record.specs.declared.Done.{Done}
-use Rattle.record.specs.declared.Done.the-variants.{Taken, Refused}
-use Rattle.cube.specs.Places.{kindIn, entryIn, brickOf, itemNo, byteOf, rowsOf, rawOf, floatOf}
-use Rattle.cube.specs.Regions.{rawRows, floatRows, store, written, inExtent, touched, find, regionVerdict, rawVerdict, floatVerdict, writeVerdict}
-use Rattle.zgy.specs.Ledger.{Call, rawRead, floatRead, write, raw, floats, Event, Ran, answerOf, cubeStep, bufferStep, given}
-use Rattle.zgy.specs.Demands.{AfterRun, OnePlaceOneSample}
+use Rattle.cube.specs.Places.{entryIn, brickOf, itemNo, byteOf, rowsOf, missingBrick, rawOf, floatOf}
+use Rattle.cube.specs.Regions.{rawRows, floatRows, placeByte, store, written, touches, inExtent, regionVerdict, rawVerdict, floatVerdict, writeVerdict}
+use Rattle.cube.specs.Calls.{Call, rawRead, floatRead, write, raw, floats, answerOf, cubeAfter, buffersAfter}
+use Rattle.zgy.specs.Ledger.{Event, CallsOn}
+use Rattle.zgy.specs.Demands.{AfterCalls, OnePlaceOneSample}
 use Rattle.zgy.proofs.Whole.{one-place-one-sample}
 
 -- size (9, 4, 4), side 4, int8 with the range -1280 to 1270, five zero bytes of text. Entries 0 to 2 are of levels 2 and 1. Of level 0,
@@ -51,17 +51,9 @@ cube =
     ++ replicate 8 0
     ++ cat 64 (λ i. i ∷ [])
 
-header-taken : headerVerdict cube ≡ verdict.Taken
-unfolding cube headerVerdict versionOf descriptionOf textLengthOf le cat breaks2 breaks3 sideOk breaks4 breaks5 sizeOk breaks6 breaks7 breaks8 breaks9 described codingOf widthOf finite rangeOk bricksOf halved firstFrom sumTo ofBits lt
-header-taken = refl
-
-body-taken : bodyVerdict (descriptionOf cube) (textLengthOf cube) cube ≡ verdict.Taken
-unfolding cube bodyVerdict entriesVerdict descriptionOf textLengthOf le cat zeros breaks11 widthOf codingOf headerOf tableOf bricksOf alphasOf brickBytesOf halved firstFrom sumTo kindOf kindAt outOfRange lowestOutOfRange overlap overlapsLower lowestOverlap
-body-taken = refl
-
 pub opens : openVerdict cube ≡ verdict.Taken
-unfolding openVerdict
-opens = rw (header-taken, body-taken)
+unfolding cube cat openVerdict headerVerdict bodyVerdict lengthVerdict textVerdict entriesVerdict rangeVerdict overlapVerdict recordIn recordOf versionOf descriptionOf textLengthOf le breaks2 breaks3 sideOk breaks4 breaks5 sizeOk breaks6 breaks7 breaks8 breaks9 zeros breaks11 described codingOf widthOf finite rangeOk bricksOf alphasOf brickBytesOf tableOf headerOf halved firstFrom sumTo kindOf wordAt kindAt outOfRange outsideAt overlap overlapsLower overlapsAt tableIn breaks12 breaks13 ofBits lt
+opens = refl
 
 -- its numbers are bytes
 bytesOnly : List ℕ → Bool
@@ -95,33 +87,29 @@ calls =
     ∷ floatRead (box 6) (replicate 14 (whole (pos 1)))
     ∷ []
 
-answers : Record → List ℕ → List Call → List Done
-answers r f [] = []
-answers r f (c ∷ cs) = answerOf r f c ∷ answers r (cubeStep r f c) cs
-
--- the second write is refused 19 for entry 4 and leaves the first one's bytes; int8 -128 to 127 are scaled to -1280 to 1270; a missing brick reads as 0; two items of each buffer stay
-computed : (answers (recordIn cube) cube calls ≡ Taken 2 ∷ Refused (record { number = 19; entry = 4 }) ∷ Taken 12 ∷ Taken 12 ∷ [])
-    × (given (recordIn cube) cube calls
-    ≡ raw (7 ∷ 9 ∷ [])
-    ∷ raw (1 ∷ 2 ∷ 3 ∷ 4 ∷ [])
-    ∷ raw (7 ∷ 9 ∷ replicate 8 255 ++ (0 ∷ 0 ∷ 1 ∷ 1 ∷ []))
-    ∷ floats (whole (pos 70) ∷ whole (pos 90) ∷ replicate 8 (whole (negℤ (pos 10))) ++ (ofBits binary64 0 ∷ ofBits binary64 0 ∷ whole (pos 1) ∷ whole (pos 1) ∷ []))
-    ∷ [])
-unfolding cube box calls answers given answerOf cubeStep bufferStep rawVerdict floatVerdict writeVerdict regionVerdict breaks14With recordFits numbersFit gridFits sameBits fits isNan toBits gridOf recordIn recordOf versionOf descriptionOf textLengthOf le cat breaks3 sideOk breaks4 breaks5 sizeOk breaks6 breaks7 breaks8 breaks9 described codingOf widthOf finite rangeOk bricksOf halved firstFrom sumTo ofBits lt levelsOf alphasOf headerOf tableOf brickBytesOf inExtent touched find entryIn brickOf itemNo byteOf entryOf levelBase kindIn kindOf kindAt outOfRange written store up rawRows floatRows rowsOf rawOf floatOf lows decodeOf scaledOf add sub mul div ofInt
-computed = (refl, refl)
-
 -- ---- the events that the definitions compute are allowed, so every list of calls can be made
 
 unfoldable pub made : Record → List ℕ → List Call → List Event
 made r f [] = []
-made r f (c ∷ cs) = record { call = c; answer = answerOf r f c; cube = cubeStep r f c; buffer = bufferStep r f c } ∷ made r (cubeStep r f c) cs
+made r f (c ∷ cs) = record { call = c; answer = answerOf r f c; cube = cubeAfter r f c; buffers = buffersAfter r f c } ∷ made r (cubeAfter r f c) cs
 
-pub made-ran : (r : Record) (cs : List Call) (f : List ℕ) → Ran r f (made r f cs)
+pub made-calls : (r : Record) (cs : List Call) (f : List ℕ) → CallsOn r f (made r f cs)
 unfolding made
-made-ran r [] f = tt
-made-ran r (c ∷ cs) f = (record { answer-is = refl; cube-is = refl; buffer-is = refl }, made-ran r cs (cubeStep r f c))
+made-calls r [] f = tt
+made-calls r (c ∷ cs) f = (record { answer-is = refl; cube-is = refl; buffers-are = refl }, made-calls r cs (cubeAfter r f c))
+
+-- the second write is refused 19 for entry 4 and leaves the first one's bytes; int8 -128 to 127 are scaled to -1280 to 1270; a missing brick reads as 0; two items of each buffer stay
+computed : (map (λ (e : Event). e .answer) (made (recordIn cube) cube calls) ≡ Taken 2 ∷ Refused (record { number = 19; entry = 4 }) ∷ Taken 12 ∷ Taken 12 ∷ [])
+    × (map (λ (e : Event). e .buffers) (made (recordIn cube) cube calls)
+    ≡ (raw (7 ∷ 9 ∷ []) ∷ [])
+    ∷ (raw (1 ∷ 2 ∷ 3 ∷ 4 ∷ []) ∷ [])
+    ∷ (raw (7 ∷ 9 ∷ replicate 8 255 ++ (0 ∷ 0 ∷ 1 ∷ 1 ∷ [])) ∷ [])
+    ∷ (floats (whole (pos 70) ∷ whole (pos 90) ∷ replicate 8 (whole (negℤ (pos 10))) ++ (ofBits binary64 0 ∷ ofBits binary64 0 ∷ whole (pos 1) ∷ whole (pos 1) ∷ [])) ∷ [])
+    ∷ [])
+unfolding cube box calls made answerOf cubeAfter buffersAfter rawVerdict floatVerdict writeVerdict regionVerdict breaks14With recordFits numbersFit gridFits sameBits fits isNan toBits gridOf recordIn recordOf versionOf descriptionOf textLengthOf le cat breaks3 sideOk breaks4 breaks5 sizeOk breaks6 breaks7 breaks8 breaks9 described codingOf widthOf finite rangeOk bricksOf halved firstFrom sumTo ofBits lt levelsOf alphasOf headerOf tableOf brickBytesOf inExtent touches entryIn brickOf itemNo byteOf entryOf levelBase kindIn kindOf wordAt kindAt outOfRange outsideAt tableIn breaks12 placeByte written store up rawRows floatRows rowsOf missingBrick rawOf floatOf lows decodeOf scaledOf add sub mul div ofInt
+computed = (refl, refl)
 
 -- so what demand 3 says of such a list holds of these calls
-said : AfterRun (recordIn cube) cube (made (recordIn cube) cube calls)
+said : AfterCalls (recordIn cube) cube (made (recordIn cube) cube calls)
 unfolding OnePlaceOneSample
-said = one-place-one-sample cube cube-bytes opens .2 (made (recordIn cube) cube calls) (made-ran (recordIn cube) calls cube)
+said = one-place-one-sample cube cube-bytes opens .1 (made (recordIn cube) cube calls) (made-calls (recordIn cube) calls cube)

@@ -1,40 +1,55 @@
--- Demand 2: a cube opens exactly when the rules say so; a region read gives exactly the samples that the rules put there; a cube that we make opens again.
-use mathlib.Core.List.{List}
+-- Demand 2 (FORMAT 12.2): a cube opens exactly when the rules say so; a region read gives exactly the samples that the rules put there; a cube that we make opens again.
+use mathlib.Core.List.{List, [], _∷_}
 use mathlib.Core.Path.{_≡_}
-use Prim.Native.Nat.{ℕ, _*_, _<_}
-use lib.Ieee.{nan}
-use lib.ListN.{getD, length}
-use Rattle.endian.specs.Bytes.{Bytes, peek, lows}
-use Rattle.endian.specs.Loops.{tri}
+use Prim.Native.Nat.{ℕ, _+_, _*_, _^_, _≤_, _<_}
+use lib.Ieee.{Float, nan}
+use lib.ListN.{getD, length, replicate}
+use Rattle.endian.specs.Bytes.{Bytes, peek, le, lows}
+use Rattle.record.specs.Record.{tableOf}
 use Rattle.record.specs.declared.Record.{Record}
 use Rattle.record.specs.declared.Verdict.the-variants.{Taken}
-use Rattle.table.specs.declared.Kind.the-variants.{Missing, Constant, Stored}
 use Rattle.opening.specs.Opening.{openVerdict, recordIn}
 use Rattle.opening.specs.Cube.{OpensExactly, RecordPasses}
 use Rattle.cube.specs.declared.Region.{Region}
-use Rattle.cube.specs.Places.{Place, itemBytes, kindIn, brickOf, byteOf, rowsOf, rawOf, floatOf, missing, bytes}
-use Rattle.cube.specs.Regions.{runOf, place, sizeOf, chunk, rawRows, floatRows, rawVerdict, floatVerdict}
+use Rattle.cube.specs.Places.{Place, itemBytes, brickOf, itemNo, rowsOf, rawOf, floatOf, missing, bytes}
+use Rattle.cube.specs.Regions.{sizeOf, placeAt, chunk}
+use Rattle.cube.specs.Calls.{rawRead, floatRead, raw, floats, verdictOn, buffersAfter}
 use Rattle.making.specs.MadeOpens.{MadeOpens}
 
--- what the rules put at a place: the word missing, the constant's bytes, or one item's bytes of the brick
-pub record RulesPut (r : Record) (f : List ℕ) (p : Place) : Type 0 where
-  pub of-missing : kindIn r f (brickOf r p) ≡ Missing → rowsOf r f p ≡ missing
-  pub of-constant : (v : ℕ) → kindIn r f (brickOf r p) ≡ Constant v → rowsOf r f p ≡ bytes (lows (itemBytes r) v)
-  pub of-stored : (o : ℕ) → kindIn r f (brickOf r p) ≡ Stored o → rowsOf r f p ≡ bytes (peek f (byteOf r o p) (itemBytes r))
+-- the word of a place's entry: the number in the eight bytes of its brick's entry
+abbrev pub entryWord : Record → List ℕ → Place → ℕ
+entryWord r f p = le 8 f (tableOf (r .description) (r .text) + 8 * brickOf r p)
 
--- a taken read's samples, first to last: as many as the region has, each what the rules put at its place
+-- what the rules put at a place, by that word
+pub record RulesPut (r : Record) (f : List ℕ) (p : Place) : Type 0 where
+  -- 0 is missing, 1 is constant zero
+  pub of-zero : entryWord r f p ≡ 0 → rowsOf r f p ≡ missing
+  pub of-one : entryWord r f p ≡ 1 → rowsOf r f p ≡ bytes (replicate (itemBytes r) 0)
+  -- with the top bit set it is constant, in its low 1, 2 or 4 bytes
+  pub of-top-bit : 2 ^ 63 ≤ entryWord r f p → rowsOf r f p ≡ bytes (lows (itemBytes r) (entryWord r f p))
+  -- otherwise it is the offset of the brick, in which the place has one item's bytes
+  pub of-offset : 2 ≤ entryWord r f p → entryWord r f p < 2 ^ 63 → rowsOf r f p ≡ bytes (peek f (entryWord r f p + itemNo r p * itemBytes r) (itemBytes r))
+
+-- the buffer b′ after a taken raw read of g into b: the samples first to last, each what the rules put at its place, and every byte after them as it was
+pub record RawGives (r : Record) (f : List ℕ) (g : Region) (b b′ : List ℕ) : Type 0 where
+  pub room : length b′ ≡ length b
+  pub each : (t : ℕ) → t < sizeOf g → chunk (itemBytes r) b′ t ≡ rawOf r (rowsOf r f (placeAt g t))
+  pub after : (x : ℕ) → sizeOf g * itemBytes r ≤ x → getD b′ x 0 ≡ getD b x 0
+
+-- the same of a float read
+pub record FloatGives (r : Record) (f : List ℕ) (g : Region) (b b′ : List Float) : Type 0 where
+  pub room : length b′ ≡ length b
+  pub each : (t : ℕ) → t < sizeOf g → getD b′ t nan ≡ floatOf r (rowsOf r f (placeAt g t))
+  pub after : (x : ℕ) → sizeOf g ≤ x → getD b′ x nan ≡ getD b x nan
+
 pub record ReadsGive (r : Record) (f : List ℕ) (g : Region) : Type 0 where
-  pub raw-all : (n : ℕ) → rawVerdict r f g n ≡ Taken → length (rawRows r (rowsOf r f) g) ≡ sizeOf g * itemBytes r
-  pub raw-each : (n : ℕ) → rawVerdict r f g n ≡ Taken → (i j k : ℕ) → i < runOf g 0 → j < runOf g 1 → k < runOf g 2
-      → chunk (itemBytes r) (rawRows r (rowsOf r f) g) (tri (runOf g 1) (runOf g 2) i j k) ≡ rawOf r (rowsOf r f (place g i j k))
-  pub float-all : (n : ℕ) → floatVerdict r f g n ≡ Taken → length (floatRows r (rowsOf r f) g) ≡ sizeOf g
-  pub float-each : (n : ℕ) → floatVerdict r f g n ≡ Taken → (i j k : ℕ) → i < runOf g 0 → j < runOf g 1 → k < runOf g 2
-      → getD (floatRows r (rowsOf r f) g) (tri (runOf g 1) (runOf g 2) i j k) nan ≡ floatOf r (rowsOf r f (place g i j k))
+  pub raw-gives : (b b′ : List ℕ) → verdictOn r f (rawRead g b) ≡ Taken → raw b′ ∷ [] ≡ buffersAfter r f (rawRead g b) → RawGives r f g b b′
+  pub float-gives : (b b′ : List Float) → verdictOn r f (floatRead g b) ≡ Taken → floats b′ ∷ [] ≡ buffersAfter r f (floatRead g b) → FloatGives r f g b b′
 
 -- demand 2
 pub record OpensReadsAndMakes : Type 0 where
   pub opens : OpensExactly
   pub passes : RecordPasses
-  pub puts : (f : List ℕ) → Bytes f → openVerdict f ≡ Taken → (p : Place) → RulesPut (recordIn f) f p
-  pub reads : (f : List ℕ) → Bytes f → openVerdict f ≡ Taken → (g : Region) → ReadsGive (recordIn f) f g
+  pub puts : (f : List ℕ) → openVerdict f ≡ Taken → (p : Place) → RulesPut (recordIn f) f p
+  pub reads : (f : List ℕ) → openVerdict f ≡ Taken → (g : Region) → ReadsGive (recordIn f) f g
   pub makes : MadeOpens

@@ -5,6 +5,7 @@ use bricks::Found;
 use bricks::brick_kind;
 use bricks::brick_view_verdict;
 use cube::Region;
+use geometry::TEXT_START;
 use making::Fill;
 use making::make;
 use opening::Opened;
@@ -17,30 +18,28 @@ use record::Done;
 use record::Record;
 use record::Refusal;
 use record::Verdict;
-use record::brick_bytes_in;
 use sampling::read_float;
 use strings::Turn;
-use strings::strings_verdict;
 use strings::turn_of;
 use subtiles::to_plain;
 use subtiles::to_subtiled;
+use table::Kind;
+use table::kind_at;
+use table::table_in;
 use writing::write;
 ghost use mathlib.Core.List.{[], _∷_};
 ghost use mathlib.Core.Path.{_≡_};
-ghost use Prim.Native.Nat.{_*_};
 ghost use lib.ListN.{length, getD};
 ghost use Rattle.endian.specs.Bytes.{peek};
-ghost use Rattle.record.specs.Answers.{doneOf, numberOf, secondOf};
-ghost use Rattle.record.specs.Record.{brickBytesOf};
+ghost use Rattle.record.specs.Answers.{numberOf, secondOf};
 ghost use Rattle.opening.specs.Opening.{openedOf};
-ghost use Rattle.bricks.specs.Bricks.{kindAnswer, viewVerdict, viewOf};
-ghost use Rattle.cube.specs.Places.{itemBytes, rowsOf};
-ghost use Rattle.cube.specs.Regions.{sizeOf, rawRows, floatRows, rawVerdict, floatVerdict, writeVerdict, written, after, over};
+ghost use Rattle.bricks.specs.Bricks.{kindAnswer, shownOf};
+ghost use Rattle.cube.specs.Calls.{Call, rawRead, floatRead, raw, floats, answerOf, cubeAfter, buffersAfter};
 ghost use Rattle.positions.specs.Positions.{positionAnswer};
-ghost use Rattle.strings.specs.Strings.{stringsVerdict, textIn, turnOf, placeOf, stringsOf};
+ghost use Rattle.strings.specs.Strings.{textIn, turnIn, stringsOf};
 ghost use Rattle.making.specs.Making.{makeAnswer, makeBuffer};
-ghost use Rattle.subtiles.specs.Answers.{plainIn, subtiledIn, permuteAnswer, bufferAfter};
-ghost use Rattle.zgy_c.specs.Boundary.{doneC, fillC, positionC, brickC, kindC, openedC, partC, shownC, viewC, bytesC, stringC};
+ghost use Rattle.subtiles.specs.Answers.{permuteAnswer, plainBuffer, subtiledBuffer};
+ghost use Rattle.zgy_c.specs.Boundary.{doneC, fillC, positionC, brickC, kindC, openedC, partC, viewC, stringC};
 
 // What opening answers; a refusal stands beside a record of zeros.
 #[repr(C)]
@@ -183,25 +182,26 @@ fn found(answer: Found) -> ZgyKind
     }
 }
 
-fn part(brick: Brick, length: u64) -> ZgyView
-    ensures { λ a. ⌜ a ≡ partC brick length ⌝ }
+// Where a brick of this kind, so many bytes long, is shown.
+fn part(kind: Kind, length: u64) -> ZgyView
+    ensures { λ a. ⌜ a ≡ partC (shownOf kind length) ⌝ }
 {
-    match brick {
-        Brick::Missing => ZgyView {
+    match kind {
+        Kind::Missing => ZgyView {
             number: 0,
             entry: 0,
             source: 2,
             offset: 0,
             length,
         },
-        Brick::Constant(_) => ZgyView {
+        Kind::Constant(_) => ZgyView {
             number: 0,
             entry: 0,
             source: 2,
             offset: 0,
             length,
         },
-        Brick::Stored(offset) => ZgyView {
+        Kind::Stored(offset) => ZgyView {
             number: 0,
             entry: 0,
             source: 1,
@@ -223,21 +223,12 @@ fn nowhere(x: Refusal) -> ZgyView
     }
 }
 
-fn shown(answer: Found, length: u64) -> ZgyView
-    ensures { λ a. ⌜ a ≡ shownC answer length ⌝ }
-{
-    match answer {
-        Found::Known(brick) => part(brick, length),
-        Found::Refused(x) => nowhere(x),
-    }
-}
-
-fn no_string(x: Refusal) -> ZgyString
-    ensures { λ a. ⌜ a ≡ record { number = x .number; entry = x .entry; found = 0; offset = 0; length = 0 } ⌝ }
+fn no_string(number: u32, entry: u32) -> ZgyString
+    ensures { λ a. ⌜ a ≡ record { number = number; entry = entry; found = 0; offset = 0; length = 0 } ⌝ }
 {
     ZgyString {
-        number: x.number,
-        entry: x.entry,
+        number,
+        entry,
         found: 0,
         offset: 0,
         length: 0,
@@ -289,15 +280,14 @@ pub extern "C" fn zgy_brick_kind(file: &[u8], r: Record, entry: u32) -> ZgyKind
 // Where the bytes of an entry's brick stand, in the file or in the filler.
 #[no_mangle]
 pub extern "C" fn zgy_brick_view(file: &[u8], filler: &[u8], r: Record, entry: u32) -> ZgyView
-    ensures answer { λ a. ⌜ a ≡ viewC (viewVerdict r (now (file .entry)) (now (filler .entry)) entry) (kindAnswer r (now (file .entry)) entry) (brickBytesOf (r .description)) ⌝ }
-    ensures shown { λ a. ⌜ viewOf r (now (file .entry)) (now (filler .entry)) entry ≡ bytesC a (now (file .entry)) (now (filler .entry)) ⌝ }
+    ensures { λ a. ⌜ a ≡ viewC r (now (file .entry)) (now (filler .entry)) entry ⌝ }
 {
     let verdict = brick_view_verdict(file, filler, r, entry);
     match verdict {
         Verdict::Refused(x) => nowhere(x),
         Verdict::Taken => {
-            let d = r.description;
-            shown(brick_kind(file, r, entry), brick_bytes_in(d))
+            let t = table_in(r);
+            part(kind_at(file, t, entry as usize), t.brick)
         }
     }
 }
@@ -305,8 +295,8 @@ pub extern "C" fn zgy_brick_view(file: &[u8], filler: &[u8], r: Record, entry: u
 // Reads the bytes of a region.
 #[no_mangle]
 pub extern "C" fn zgy_read_raw(out: &mut [u8], file: &[u8], r: Record, g: Region) -> ZgyDone
-    ensures answer { λ a. ⌜ a ≡ doneC (doneOf (rawVerdict r (now (file .entry)) g (length (now (out .entry)))) (sizeOf g * itemBytes r)) ⌝ }
-    ensures buffer { λ _. ⌜ now (out .exit) ≡ after (rawVerdict r (now (file .entry)) g (length (now (out .entry)))) (over (rawRows r (rowsOf r (now (file .entry))) g) (now (out .entry))) (now (out .entry)) ⌝ }
+    ensures answer { λ a. ⌜ a ≡ doneC (answerOf r (now (file .entry)) (rawRead g (now (out .entry)))) ⌝ }
+    ensures buffer { λ _. ⌜ raw (now (out .exit)) ∷ [] ≡ buffersAfter r (now (file .entry)) (rawRead g (now (out .entry))) ⌝ }
 {
     done(read_raw(out, file, r, g))
 }
@@ -314,8 +304,8 @@ pub extern "C" fn zgy_read_raw(out: &mut [u8], file: &[u8], r: Record, g: Region
 // Reads the samples of a region as floats.
 #[no_mangle]
 pub extern "C" fn zgy_read_float(out: &mut [f64], file: &[u8], r: Record, g: Region) -> ZgyDone
-    ensures answer { λ a. ⌜ a ≡ doneC (doneOf (floatVerdict r (now (file .entry)) g (length (now (out .entry)))) (sizeOf g)) ⌝ }
-    ensures buffer { λ _. ⌜ now (out .exit) ≡ after (floatVerdict r (now (file .entry)) g (length (now (out .entry)))) (over (floatRows r (rowsOf r (now (file .entry))) g) (now (out .entry))) (now (out .entry)) ⌝ }
+    ensures answer { λ a. ⌜ a ≡ doneC (answerOf r (now (file .entry)) (floatRead g (now (out .entry)))) ⌝ }
+    ensures buffer { λ _. ⌜ floats (now (out .exit)) ∷ [] ≡ buffersAfter r (now (file .entry)) (floatRead g (now (out .entry))) ⌝ }
 {
     done(read_float(out, file, r, g))
 }
@@ -323,8 +313,8 @@ pub extern "C" fn zgy_read_float(out: &mut [f64], file: &[u8], r: Record, g: Reg
 // Writes the bytes of a region into stored bricks.
 #[no_mangle]
 pub extern "C" fn zgy_write(file: &mut [u8], input: &[u8], r: Record, g: Region) -> ZgyDone
-    ensures answer { λ a. ⌜ a ≡ doneC (doneOf (writeVerdict r (now (file .entry)) g (length (now (input .entry)))) (sizeOf g * itemBytes r)) ⌝ }
-    ensures cube { λ _. ⌜ now (file .exit) ≡ after (writeVerdict r (now (file .entry)) g (length (now (input .entry)))) (written r g (now (input .entry)) (now (file .entry))) (now (file .entry)) ⌝ }
+    ensures answer { λ a. ⌜ a ≡ doneC (answerOf r (now (file .entry)) (Call.write g (now (input .entry)))) ⌝ }
+    ensures cube { λ _. ⌜ now (file .exit) ≡ cubeAfter r (now (file .entry)) (Call.write g (now (input .entry))) ⌝ }
 {
     done(write(file, input, r, g))
 }
@@ -340,14 +330,11 @@ pub extern "C" fn zgy_position(r: Record, dimension: u32, index: u32) -> ZgyPosi
 // Where the n-th string of a cube stands in the file, from 0 on.
 #[no_mangle]
 pub extern "C" fn zgy_string(file: &[u8], r: Record, n: u32) -> ZgyString
-    ensures answer { λ a. ⌜ a ≡ stringC (stringsVerdict r (now (file .entry))) (turnOf (textIn r (now (file .entry))) (placeOf (textIn r (now (file .entry))) n)) ⌝ }
+    ensures answer { λ a. ⌜ a ≡ stringC (turnIn r (now (file .entry)) n) ⌝ }
     ensures shown { λ a. ⌜ peek (now (file .entry)) (a .offset) (a .length) ≡ getD (stringsOf (textIn r (now (file .entry)))) n [] ⌝ }
 {
-    let verdict = strings_verdict(file, r);
-    let x = numbers(verdict);
     let turn = turn_of(file, r, n);
     match turn {
-        Turn::Done => no_string(x),
         Turn::Item {
             start,
             end,
@@ -356,9 +343,11 @@ pub extern "C" fn zgy_string(file: &[u8], r: Record, n: u32) -> ZgyString
             number: 0,
             entry: 0,
             found: 1,
-            offset: (346 + start) as u64,
+            offset: (TEXT_START + start) as u64,
             length: (end - start) as u64,
         },
+        Turn::Done => no_string(0, 0),
+        Turn::Refused(x) => no_string(x.number, x.entry),
     }
 }
 
@@ -382,7 +371,7 @@ pub extern "C" fn zgy_to_plain(
     width: u32,
 ) -> ZgyDone
     ensures answer { λ a. ⌜ a ≡ doneC (permuteAnswer (side0 ∷ side1 ∷ side2 ∷ []) width (length (now (brick .entry))) (length (now (out .entry)))) ⌝ }
-    ensures buffer { λ _. ⌜ now (out .exit) ≡ bufferAfter (permuteAnswer (side0 ∷ side1 ∷ side2 ∷ []) width (length (now (brick .entry))) (length (now (out .entry)))) (plainIn (side0 ∷ side1 ∷ side2 ∷ []) width (now (brick .entry))) (now (out .entry)) ⌝ }
+    ensures buffer { λ _. ⌜ now (out .exit) ≡ plainBuffer (side0 ∷ side1 ∷ side2 ∷ []) width (now (brick .entry)) (now (out .entry)) ⌝ }
 {
     done(to_plain(out, brick, [side0, side1, side2], width))
 }
@@ -398,7 +387,7 @@ pub extern "C" fn zgy_to_subtiled(
     width: u32,
 ) -> ZgyDone
     ensures answer { λ a. ⌜ a ≡ doneC (permuteAnswer (side0 ∷ side1 ∷ side2 ∷ []) width (length (now (brick .entry))) (length (now (out .entry)))) ⌝ }
-    ensures buffer { λ _. ⌜ now (out .exit) ≡ bufferAfter (permuteAnswer (side0 ∷ side1 ∷ side2 ∷ []) width (length (now (brick .entry))) (length (now (out .entry)))) (subtiledIn (side0 ∷ side1 ∷ side2 ∷ []) width (now (brick .entry))) (now (out .entry)) ⌝ }
+    ensures buffer { λ _. ⌜ now (out .exit) ≡ subtiledBuffer (side0 ∷ side1 ∷ side2 ∷ []) width (now (brick .entry)) (now (out .entry)) ⌝ }
 {
     done(to_subtiled(out, brick, [side0, side1, side2], width))
 }

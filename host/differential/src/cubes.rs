@@ -1,4 +1,4 @@
-//! Random cubes that open: an encoder of its own, with arbitrary bytes wherever the paper ignores them.
+//! Random cubes that open: an encoder of its own, with arbitrary bytes wherever FORMAT ignores them.
 
 use crate::random::Random;
 use crate::reader::{self, at};
@@ -174,7 +174,7 @@ fn entries(random: &mut Random, record: &Record, bytes: u64) -> (Vec<u64>, u64) 
     (entries, end + random.pick(&[0, 0, 0, 1, 9]))
 }
 
-/// The file of a record, with arbitrary bytes wherever the paper ignores them.
+/// The file of a record, with arbitrary bytes wherever FORMAT ignores them.
 pub fn encode(random: &mut Random, record: &Record, text: &[u8], entries: &[u64]) -> Vec<u8> {
     let mut file = random.bytes(record.length as usize);
     reader::put(&mut file, 0, b"VBS\0");

@@ -1,4 +1,4 @@
-//! The paper's ledger of demand 3, kept as a table: what every sample of a cube has to be after any list of calls.
+//! The ledger of demand 3 (FORMAT 12.4), kept as a table: what every sample of a cube has to be after any list of calls.
 
 use crate::reader::{self, Level, Sample};
 use zgy::{Record, Region};

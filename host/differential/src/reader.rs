@@ -1,4 +1,4 @@
-//! A second reader of cubes, from the papers alone: sample by sample, simple and slow. It shares nothing with the library but the
+//! A second reader of cubes, by docs/FORMAT.md alone: sample by sample, simple and slow. It shares nothing with the library but the
 //! shapes of arguments and answers.
 
 use std::collections::BTreeSet;
@@ -501,7 +501,7 @@ pub fn write(file: &mut [u8], record: &Record, region: Region, input: &[u8]) -> 
 }
 
 /// The bytes of the bricks that a write touches, where two of these bricks overlap. That cannot be in a cube that opened, but in
-/// one whose table was changed since; the paper does not say then which of two samples on one byte is written last.
+/// one whose table was changed since; FORMAT does not say then which of two samples on one byte is written last.
 pub fn unsettled(file: &[u8], record: &Record, region: Region) -> Vec<Range<usize>> {
     let level = &levels(&record.description)[region.level as usize];
     let brick = brick_bytes(&record.description) as usize;

@@ -18,7 +18,7 @@ pub enum Call {
 }
 
 impl Call {
-    /// The refusals that the paper lists for the call.
+    /// The refusals that FORMAT lists for the call.
     pub fn refusals(self) -> &'static [u32] {
         match self {
             Call::Open => &[1, 2, 3, 4, 5, 6, 7, 8, 9, 10, 11, 12, 13],

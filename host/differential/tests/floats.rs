@@ -1,4 +1,4 @@
-//! Samples as 64-bit floats, by bits: the float rules of the paper for every stored value, and for every sort of 32-bit float.
+//! Samples as 64-bit floats, by bits: the float rules (FORMAT 11) for every stored value, and for every sort of 32-bit float.
 
 use differential::cubes::{self, Sound};
 use differential::reader;
@@ -169,7 +169,7 @@ fn ranges(trial: &mut Trial, count: usize) -> Vec<[u32; 2]> {
     known.into_iter().map(|range| range.map(f32::to_bits)).chain(random).collect()
 }
 
-/// The paper's order of operations, for a stored value between the type's lowest and highest.
+/// The order of operations of FORMAT 11.3, for a stored value between the type's lowest and highest.
 fn scaled(stored: f64, lo: f64, hi: f64, range: [u32; 2]) -> u64 {
     let [min, max] = range.map(|bits| f64::from(f32::from_bits(bits)));
     ((max - min) * (stored - lo) / (hi - lo) + min).to_bits()

@@ -1,4 +1,4 @@
-//! Lists of region calls on one cube, against the paper's ledger: every taken read gives exactly what the ledger gives.
+//! Lists of region calls on one cube, against the ledger of FORMAT 12.4: every taken read gives exactly what the ledger gives.
 
 use differential::arguments;
 use differential::cubes::{self, any_limits, Sound};
@@ -9,7 +9,7 @@ use differential::trial::{run, Trial};
 use differential::LISTS;
 use zgy::{Record, Region};
 
-/// One region call of a random sort, told to the ledger as the paper says: its arguments, and whether it was refused.
+/// One region call of a random sort, told to the ledger as FORMAT says: its arguments, and whether it was refused.
 fn one_call(trial: &mut Trial, good: &Record, file: &mut Vec<u8>, ledger: &mut Ledger) {
     let random = &mut trial.random;
     let region = arguments::region(random, good);

@@ -7,8 +7,8 @@ use std::fs::File;
 use std::path::Path;
 use zgy::{Cube, Description, Fill, Record, Refusal};
 
-/// No headers are longer: the longest text, and tables of as many entries as check 8 lets through.
-const LONGEST_HEADERS: usize = 346 + 65_536 + 2_064 + 8 * 16_384 + 8 * 16_384;
+/// The number of a buffer that is too short.
+const TOO_SHORT: u32 = 18;
 
 pub fn run(mut arguments: Arguments) -> Result<(), Failure> {
     let path = arguments.path()?;
@@ -61,12 +61,24 @@ fn text(arguments: &mut Arguments) -> Result<Vec<u8>, Failure> {
     Ok(strings.iter().flat_map(|string| string.bytes().chain([0])).collect())
 }
 
-/// How long the file gets. A cube of constant bricks, made in memory, is the headers alone; stored bricks follow them from the
-/// first multiple of the brick's bytes on.
+/// The headers alone: a cube of constant bricks, in a buffer that grows until the library takes it.
+fn headers(description: &Description, text: &[u8]) -> Result<Vec<u8>, Refusal> {
+    let mut buffer = vec![0; 4096];
+    loop {
+        match Cube::make(&mut buffer, description, text, Fill::Constant) {
+            Ok(end) => {
+                buffer.truncate(end);
+                return Ok(buffer);
+            }
+            Err(Refusal { number: TOO_SHORT, .. }) => buffer.resize(2 * buffer.len(), 0),
+            Err(refusal) => return Err(refusal),
+        }
+    }
+}
+
+/// How long the file gets. Stored bricks follow the headers from the first multiple of the brick's bytes on.
 fn length(description: &Description, text: &[u8], fill: Fill) -> Result<u64, Refusal> {
-    let mut headers = vec![0; LONGEST_HEADERS];
-    let end = Cube::make(&mut headers, description, text, Fill::Constant)?;
-    let cube: Record = Cube::open(&headers[..end])?;
+    let cube: Record = Cube::open(&headers(description, text)?)?;
     let side = description.side.map(u64::from);
     let brick = side[0] * side[1] * side[2] * cube.item_bytes() as u64;
     Ok(match fill {

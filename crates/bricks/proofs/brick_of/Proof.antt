@@ -29,13 +29,4 @@ returns-3 : tie.Need-returns-3
 returns-3 c = ap (brickOf (c .before .before .before .args .datatype)) (sym (c .before .kind2 .given .1))
 
 pub brick-of-spec : {M : Type 1} → statement M
-brick-of-spec =
-    tie.close
-    (tie.spec
-    enum-told
-    enum-known-kind
-    constant-value-requires
-    enum-known-kind-2
-    returns
-    returns-2
-    returns-3)
+brick-of-spec = tie.close (tie.spec enum-told enum-known-kind constant-value-requires enum-known-kind-2 returns returns-2 returns-3)

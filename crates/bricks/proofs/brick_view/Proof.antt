@@ -1,6 +1,6 @@
 -- `bricks::brick_view` meets its contract. Assumes nothing.
-use mathlib.Core.Path.{sym, _∙_}
-use Rattle.bricks.proofs.Views.{viewed-refused, viewed-taken}
+use mathlib.Core.Path.{refl, sym, _∙_}
+use Rattle.bricks.proofs.Views.{view-none, shows-file}
 use borrow.Author.Needs.{needs}
 use Rattle.bricks.proofs.brick_view.Statement.{statement}
 use Rattle.bricks.proofs.brick_view.Tie as tie
@@ -28,22 +28,12 @@ shown-requires c κs = sym (c .before .before .brick-view-verdict .ensures) ∙ 
 
 returns : tie.Need-returns
 returns c =
-    viewed-refused _ _ _ _ _ (sym (c .before .before .before .brick-view-verdict .ensures) ∙ c .before .enum-told .given .1)
+    shows-file _ _ _ (view-none _ _ _ _ _ (sym (c .before .before .before .brick-view-verdict .ensures) ∙ c .before .enum-told .given .1)) refl refl refl
 
 returns-2 : tie.Need-returns-2
-returns-2 c =
-    c .shown .ensures ∙ sym (viewed-taken _ _ _ _ (sym (c .before .before .before .brick-view-verdict .ensures) ∙ c .before .enum-told2 .given .1))
+returns-2 c = search needs
 
 pub brick-view-spec : {M : Type 1} → statement M
 brick-view-spec =
     tie.close
-    (tie.spec
-    brick-view-verdict-requires
-    enum-told
-    sub-result
-    part-result-start
-    part-result-end
-    enum-told-2
-    shown-requires
-    returns
-    returns-2)
+    (tie.spec brick-view-verdict-requires enum-told sub-result part-result-start part-result-end enum-told-2 shown-requires returns returns-2)

@@ -3,7 +3,8 @@ use mathlib.Core.Path.{sym, ap, _∙_}
 use native.Mathlib.Omega.{arith}
 use Rattle.record.specs.Types.{valueOf, valueBy}
 use Rattle.record.specs.declared.Coding.{Coding}
-use Rattle.bricks.proofs.Entries.{in-half}
+use Rattle.record.proofs.Laws.{scaled-fits}
+use Rattle.bricks.proofs.Entries.{raw-fits}
 use borrow.Author.Needs.{needs}
 use Rattle.bricks.proofs.constant_value.Statement.{statement}
 use Rattle.bricks.proofs.constant_value.Tie as tie
@@ -16,7 +17,9 @@ enum-known-coding c = search needs
 
 integer-value-requires : tie.Need-integer-value-requires
 integer-value-requires c κs =
-    let p = in-half _ _ _ _ (sym (c .before .coding .given .1) ∙ c .before .before .before .coding-of .ensures) (c .before .before .before .before .pre) in
+    let s = c .before .before .before .before in
+    let e = sym (c .before .before .before .coding-of .ensures) ∙ c .before .coding .given .1 in
+    let p = scaled-fits (s .args .datatype) _ _ (s .args .raw) e (raw-fits _ _ _ _ e (s .pre)) in
     (omega arith, omega arith, omega arith)
 
 enum-told : tie.Need-enum-told
@@ -49,14 +52,5 @@ returns-3 c =
 pub constant-value-spec : {M : Type 1} → statement M
 constant-value-spec =
     tie.close
-    (tie.spec
-    coding-of-requires
-    enum-known-coding
-    integer-value-requires
-    enum-told
-    widen-bits-requires
-    enum-told-2
-    widen-bits-requires-2
-    returns
-    returns-2
-    returns-3)
+    (tie.spec coding-of-requires enum-known-coding integer-value-requires enum-told widen-bits-requires enum-told-2 widen-bits-requires-2 returns
+    returns-2 returns-3)

@@ -33,15 +33,4 @@ returns : tie.Need-returns Inv-loop μ-loop
 returns c = decided _ _ _ _ _ (omega arith) (c .before .loop .inv .1)
 
 pub same-words-spec : {M : Type 1} → statement M
-same-words-spec =
-    tie.close
-    (tie.spec
-    Inv-loop
-    μ-loop
-    loop-holds
-    mul-u32-at
-    u32-at-requires
-    add-i
-    loop-less
-    loop-again
-    returns)
+same-words-spec = tie.close (tie.spec Inv-loop μ-loop loop-holds mul-u32-at u32-at-requires add-i loop-less loop-again returns)

@@ -21,11 +21,4 @@ unfolding breaks2
 returns c = search needs
 
 pub check2-spec : {M : Type 1} → statement M
-check2-spec =
-    tie.close
-    (tie.spec
-    shared-slice-read-result
-    shared-slice-read-result-2
-    shared-slice-read-result-3
-    shared-slice-read-result-4
-    returns)
+check2-spec = tie.close (tie.spec shared-slice-read-result shared-slice-read-result-2 shared-slice-read-result-3 shared-slice-read-result-4 returns)

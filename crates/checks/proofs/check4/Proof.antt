@@ -29,11 +29,4 @@ returns c = cc
 pub check4-spec : {M : Type 1} → statement M
 check4-spec =
     tie.close
-    (tie.spec
-    array-read-side-ok
-    side-ok-requires
-    array-read-side-ok-2
-    side-ok-requires-2
-    array-read-side-ok-3
-    side-ok-requires-3
-    returns)
+    (tie.spec array-read-side-ok side-ok-requires array-read-side-ok-2 side-ok-requires-2 array-read-side-ok-3 side-ok-requires-3 returns)

@@ -29,11 +29,4 @@ returns c = cc
 pub check6-spec : {M : Type 1} → statement M
 check6-spec =
     tie.close
-    (tie.spec
-    array-read-size-ok
-    size-ok-requires
-    array-read-size-ok-2
-    size-ok-requires-2
-    array-read-size-ok-3
-    size-ok-requires-3
-    returns)
+    (tie.spec array-read-size-ok size-ok-requires array-read-size-ok-2 size-ok-requires-2 array-read-size-ok-3 size-ok-requires-3 returns)

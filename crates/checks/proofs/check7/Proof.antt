@@ -24,12 +24,4 @@ unfolding breaks7
 returns c = cc
 
 pub check7-spec : {M : Type 1} → statement M
-check7-spec =
-    tie.close
-    (tie.spec
-    finite3-requires
-    finite3-requires-2
-    array-read-range-ok
-    array-read-range-ok-2
-    range-ok-requires
-    returns)
+check7-spec = tie.close (tie.spec finite3-requires finite3-requires-2 array-read-range-ok array-read-range-ok-2 range-ok-requires returns)

@@ -27,11 +27,5 @@ returns c = cc
 pub finite3-spec : {M : Type 1} → statement M
 finite3-spec =
     tie.close
-    (tie.spec
-    array-read-finite-bits
-    finite-bits-requires
-    array-read-finite-bits-2
-    finite-bits-requires-2
-    array-read-finite-bits-3
-    finite-bits-requires-3
-    returns)
+    (tie.spec array-read-finite-bits finite-bits-requires array-read-finite-bits-2 finite-bits-requires-2 array-read-finite-bits-3
+    finite-bits-requires-3 returns)

@@ -35,13 +35,5 @@ returns c = cc
 pub grid-fits-spec : {M : Type 1} → statement M
 grid-fits-spec =
     tie.close
-    (tie.spec
-    three-fit-requires
-    three-fit-requires-2
-    array-read-bound-of
-    bound-of-requires
-    same-bits-requires
-    array-read-bound-of-2
-    bound-of-requires-2
-    same-bits-requires-2
-    returns)
+    (tie.spec three-fit-requires three-fit-requires-2 array-read-bound-of bound-of-requires same-bits-requires array-read-bound-of-2
+    bound-of-requires-2 same-bits-requires-2 returns)

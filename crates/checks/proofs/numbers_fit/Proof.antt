@@ -62,12 +62,4 @@ returns-2 c =
 pub numbers-fit-spec : {M : Type 1} → statement M
 numbers-fit-spec =
     tie.close
-    (tie.spec
-    shape-in-requires
-    returns
-    wide-requires
-    header-end-requires
-    wide-requires-2
-    wide-requires-3
-    wide-requires-4
-    returns-2)
+    (tie.spec shape-in-requires returns wide-requires header-end-requires wide-requires-2 wide-requires-3 wide-requires-4 returns-2)

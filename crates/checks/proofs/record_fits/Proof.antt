@@ -63,12 +63,4 @@ returns-3 c =
 pub record-fits-spec : {M : Type 1} → statement M
 record-fits-spec =
     tie.close
-    (tie.spec
-    check3-requires
-    check9-requires
-    returns
-    fields-fit-requires
-    grid-fits-requires
-    numbers-fit-requires
-    returns-2
-    returns-3)
+    (tie.spec check3-requires check9-requires returns fields-fit-requires grid-fits-requires numbers-fit-requires returns-2 returns-3)

@@ -36,14 +36,5 @@ returns c = cc
 pub three-fit-spec : {M : Type 1} → statement M
 three-fit-spec =
     tie.close
-    (tie.spec
-    array-read-same-bits
-    array-read-same-bits-2
-    same-bits-requires
-    array-read-same-bits-3
-    array-read-same-bits-4
-    same-bits-requires-2
-    array-read-same-bits-5
-    array-read-same-bits-6
-    same-bits-requires-3
-    returns)
+    (tie.spec array-read-same-bits array-read-same-bits-2 same-bits-requires array-read-same-bits-3 array-read-same-bits-4 same-bits-requires-2
+    array-read-same-bits-5 array-read-same-bits-6 same-bits-requires-3 returns)

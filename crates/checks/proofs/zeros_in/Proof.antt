@@ -48,15 +48,4 @@ returns c =
     c .before .loop .inv .1 ∙ ap (zerosTo (c .before .before .args .text .now)) e
 
 pub zeros-in-spec : {M : Type 1} → statement M
-zeros-in-spec =
-    tie.close
-    (tie.spec
-    Inv-loop
-    μ-loop
-    loop-holds
-    shared-slice-read-if1
-    add-n
-    add-i
-    loop-less
-    loop-again
-    returns)
+zeros-in-spec = tie.close (tie.spec Inv-loop μ-loop loop-holds shared-slice-read-if1 add-n add-i loop-less loop-again returns)

@@ -83,18 +83,5 @@ returns-4 c =
 pub decode-spec : {M : Type 1} → statement M
 decode-spec =
     tie.close
-    (tie.spec
-    coding-of-requires
-    enum-known-coding
-    decode-scaled-requires
-    decode-scaled-requires-2
-    enum-told
-    decode-widened-requires
-    enum-told-2
-    same-length
-    returns
-    same-length-2
-    returns-2
-    same-length-3
-    returns-3
-    returns-4)
+    (tie.spec coding-of-requires enum-known-coding decode-scaled-requires decode-scaled-requires-2 enum-told decode-widened-requires enum-told-2
+    same-length returns same-length-2 returns-2 same-length-3 returns-3 returns-4)

@@ -2,7 +2,7 @@
 use mathlib.Core.Path.{sym, ap, _∙_}
 use Rattle.record.specs.Types.{widthOf, decodeBy, decodeOf}
 use Rattle.record.specs.declared.Coding.{Coding}
-use Rattle.decoding.proofs.Items.{scaled-fits}
+use Rattle.record.proofs.Laws.{scaled-fits}
 use borrow.Author.Needs.{needs}
 use Rattle.decoding.proofs.decode_one.Statement.{statement}
 use Rattle.decoding.proofs.decode_one.Tie as tie
@@ -53,14 +53,5 @@ returns-3 c =
 pub decode-one-spec : {M : Type 1} → statement M
 decode-one-spec =
     tie.close
-    (tie.spec
-    coding-of-requires
-    enum-known-coding
-    scaled-requires
-    enum-told
-    widen-bits-requires
-    enum-told-2
-    widen-bits-requires-2
-    returns
-    returns-2
+    (tie.spec coding-of-requires enum-known-coding scaled-requires enum-told widen-bits-requires enum-told-2 widen-bits-requires-2 returns returns-2
     returns-3)

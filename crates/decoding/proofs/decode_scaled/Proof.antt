@@ -75,17 +75,4 @@ returns c =
 pub decode-scaled-spec : {M : Type 1} → statement M
 decode-scaled-spec =
     tie.close
-    (tie.spec
-    Inv-loop
-    μ-loop
-    loop-holds
-    mul-item
-    item-requires
-    scaled-requires
-    mul-out
-    slice-write-out
-    add-n
-    loop-less
-    loop-again
-    same-length
-    returns)
+    (tie.spec Inv-loop μ-loop loop-holds mul-item item-requires scaled-requires mul-out slice-write-out add-n loop-less loop-again same-length returns)

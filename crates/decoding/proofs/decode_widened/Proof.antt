@@ -73,17 +73,5 @@ returns c =
 pub decode-widened-spec : {M : Type 1} → statement M
 decode-widened-spec =
     tie.close
-    (tie.spec
-    Inv-loop
-    μ-loop
-    loop-holds
-    mul-item
-    item-requires
-    widen-bits-requires
-    mul-out
-    slice-write-out
-    add-n
-    loop-less
-    loop-again
-    same-length
+    (tie.spec Inv-loop μ-loop loop-holds mul-item item-requires widen-bits-requires mul-out slice-write-out add-n loop-less loop-again same-length
     returns)

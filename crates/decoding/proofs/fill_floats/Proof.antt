@@ -42,16 +42,4 @@ returns : tie.Need-returns Inv-loop μ-loop
 returns c = items-all (λ _. c .before .before .args .value) (c .before .loop .inv) (c .loop-test .left)
 
 pub fill-floats-spec : {M : Type 1} → statement M
-fill-floats-spec =
-    tie.close
-    (tie.spec
-    Inv-loop
-    μ-loop
-    loop-holds
-    mul-out
-    slice-write-out
-    add-n
-    loop-less
-    loop-again
-    same-length
-    returns)
+fill-floats-spec = tie.close (tie.spec Inv-loop μ-loop loop-holds mul-out slice-write-out add-n loop-less loop-again same-length returns)

@@ -36,14 +36,4 @@ returns-3 c =
     rw e (c .u32-at .ensures, omega arith)
 
 pub item-spec : {M : Type 1} → statement M
-item-spec =
-    tie.close
-    (tie.spec
-    u8-at-requires
-    cast-result
-    u16-at-requires
-    cast-result-2
-    u32-at-requires
-    returns
-    returns-2
-    returns-3)
+item-spec = tie.close (tie.spec u8-at-requires cast-result u16-at-requires cast-result-2 u32-at-requires returns returns-2 returns-3)

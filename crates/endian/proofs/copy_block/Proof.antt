@@ -39,13 +39,5 @@ returns-2 c =
 pub copy-block-spec : {M : Type 1} → statement M
 copy-block-spec =
     tie.close
-    (tie.spec
-    copy-piece-requires
-    copy-piece-requires-2
-    add-copy-piece
-    sub-copy-piece
-    copy-piece-requires-3
-    same-length
-    returns
-    same-length-2
+    (tie.spec copy-piece-requires copy-piece-requires-2 add-copy-piece sub-copy-piece copy-piece-requires-3 same-length returns same-length-2
     returns-2)

@@ -50,15 +50,4 @@ returns c =
 pub copy-blocks-spec : {M : Type 1} → statement M
 copy-blocks-spec =
     tie.close
-    (tie.spec
-    Inv-loop
-    μ-loop
-    sub-last
-    loop-holds
-    copy-block-requires
-    add-t
-    loop-less
-    loop-again
-    copy-block-requires-2
-    same-length
-    returns)
+    (tie.spec Inv-loop μ-loop sub-last loop-holds copy-block-requires add-t loop-less loop-again copy-block-requires-2 same-length returns)

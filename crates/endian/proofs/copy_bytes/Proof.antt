@@ -41,16 +41,4 @@ returns : tie.Need-returns Inv-loop μ-loop
 returns c = filled-all (c .before .loop .inv) (omega arith) ∙ take-all (c .before .loop .t) (c .before .before .args .src .now) (omega arith)
 
 pub copy-bytes-spec : {M : Type 1} → statement M
-copy-bytes-spec =
-    tie.close
-    (tie.spec
-    Inv-loop
-    μ-loop
-    loop-holds
-    shared-slice-read-out
-    slice-write-out
-    add-t
-    loop-less
-    loop-again
-    same-length
-    returns)
+copy-bytes-spec = tie.close (tie.spec Inv-loop μ-loop loop-holds shared-slice-read-out slice-write-out add-t loop-less loop-again same-length returns)

@@ -80,19 +80,6 @@ returns c =
 pub copy-piece-spec : {M : Type 1} → statement M
 copy-piece-spec =
     tie.close
-    (tie.spec
-    add-e
-    array-borrow-prefix-piece
-    slice-aggregate-copy-bytes
-    sub-copy-bytes
-    part-copy-bytes-start
-    part-copy-bytes-end
-    copy-bytes-requires
-    sub-copy-bytes-2
-    part-copy-bytes-start-2
-    part-copy-bytes-end-2
-    array-share-prefix-piece
-    slice-aggregate-copy-bytes-2
-    copy-bytes-requires-2
-    same-length
-    returns)
+    (tie.spec add-e array-borrow-prefix-piece slice-aggregate-copy-bytes sub-copy-bytes part-copy-bytes-start part-copy-bytes-end copy-bytes-requires
+    sub-copy-bytes-2 part-copy-bytes-start-2 part-copy-bytes-end-2 array-share-prefix-piece slice-aggregate-copy-bytes-2 copy-bytes-requires-2
+    same-length returns)

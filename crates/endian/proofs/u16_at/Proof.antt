@@ -28,6 +28,4 @@ returns : tie.Need-returns
 returns c = c .join2 .ensures ∙ two _ _
 
 pub u16-at-spec : {M : Type 1} → statement M
-u16-at-spec =
-    tie.close
-    (tie.spec shared-slice-read-join2 add-join2 shared-slice-read-join2-2 join2-requires returns)
+u16-at-spec = tie.close (tie.spec shared-slice-read-join2 add-join2 shared-slice-read-join2-2 join2-requires returns)

@@ -46,13 +46,5 @@ returns c = c .join4 .ensures ∙ four _ _
 pub u32-at-spec : {M : Type 1} → statement M
 u32-at-spec =
     tie.close
-    (tie.spec
-    shared-slice-read-join4
-    add-join4
-    shared-slice-read-join4-2
-    add-join4-2
-    shared-slice-read-join4-3
-    add-join4-3
-    shared-slice-read-join4-4
-    join4-requires
-    returns)
+    (tie.spec shared-slice-read-join4 add-join4 shared-slice-read-join4-2 add-join4-2 shared-slice-read-join4-3 add-join4-3 shared-slice-read-join4-4
+    join4-requires returns)

@@ -29,5 +29,4 @@ returns : tie.Need-returns
 returns c = c .join-halves .ensures ∙ rw (c .before .u32-at2 .ensures, c .before .before .u32-at .ensures) (eight _ _)
 
 pub u64-at-spec : {M : Type 1} → statement M
-u64-at-spec =
-    tie.close (tie.spec u32-at-requires add-u32-at u32-at-requires-2 join-halves-requires returns)
+u64-at-spec = tie.close (tie.spec u32-at-requires add-u32-at u32-at-requires-2 join-halves-requires returns)

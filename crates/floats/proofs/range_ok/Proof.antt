@@ -26,6 +26,4 @@ returns c =
     (and-assoc (finiteBits (a .min)) (finiteBits (a .max)) (lt (ofBits binary32 (a .min)) (ofBits binary32 (a .max))))
 
 pub range-ok-spec : {M : Type 1} → statement M
-range-ok-spec =
-    tie.close
-    (tie.spec finite-bits-requires finite-bits-requires-2 float-of-requires float-of-requires-2 returns)
+range-ok-spec = tie.close (tie.spec finite-bits-requires finite-bits-requires-2 float-of-requires float-of-requires-2 returns)

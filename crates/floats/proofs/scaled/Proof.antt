@@ -32,5 +32,4 @@ returns c =
     c .converted .ensures ∙ (λ i. convert ((lo-is ∙ lo .ensures) i) ((hi-is ∙ hi .ensures) i) (a .min) (a .max) ((s-is ∙ s .ensures) i))
 
 pub scaled-spec : {M : Type 1} → statement M
-scaled-spec =
-    tie.close (tie.spec signed-item-requires lowest-requires highest-requires converted-requires returns)
+scaled-spec = tie.close (tie.spec signed-item-requires lowest-requires highest-requires converted-requires returns)

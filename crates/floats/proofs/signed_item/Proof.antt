@@ -46,5 +46,4 @@ returns c =
     ∙ turned-is (c .args .raw) (c .args .half) (c .pre .1) (c .pre .2)
 
 pub signed-item-spec : {M : Type 1} → statement M
-signed-item-spec =
-    tie.close (tie.spec mul-result add-result mul-result-2 rem-result cast-result cast-result-2 sub-result returns)
+signed-item-spec = tie.close (tie.spec mul-result add-result mul-result-2 rem-result cast-result cast-result-2 sub-result returns)

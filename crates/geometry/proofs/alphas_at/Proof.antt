@@ -39,12 +39,5 @@ returns c =
 pub alphas-at-spec : {M : Type 1} → statement M
 alphas-at-spec =
     tie.close
-    (tie.spec
-    array-read-count-at
-    array-read-count-at-2
-    count-at-requires
-    array-read-count-at-3
-    array-read-count-at-4
-    count-at-requires-2
-    mul-result
+    (tie.spec array-read-count-at array-read-count-at-2 count-at-requires array-read-count-at-3 array-read-count-at-4 count-at-requires-2 mul-result
     returns)

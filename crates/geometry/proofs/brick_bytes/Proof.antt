@@ -3,17 +3,18 @@ use mathlib.Core.Path.{refl}
 use Prim.Native.Nat.{_*_, _≤_}
 use native.Mathlib.Nat.{mul-le-mul}
 use native.Mathlib.Omega.{arith}
+use Rattle.geometry.specs.Limits.{sideRoom, bytesRoom}
 use Rattle.geometry.specs.Geometry.{brickBytes}
 use Rattle.geometry.proofs.brick_bytes.Statement.{statement}
 use Rattle.geometry.proofs.brick_bytes.Tie as tie
 
 -- its partial products
-few : (c : tie.Start) → (c .args .s0 * c .args .s1 ≤ 65536)
-    × (c .args .s0 * c .args .s1 * c .args .s2 ≤ 16777216)
-    × (brickBytes (c .args .s0) (c .args .s1) (c .args .s2) (c .args .w) ≤ 67108864)
+few : (c : tie.Start) → (c .args .s0 * c .args .s1 ≤ sideRoom * sideRoom)
+    × (c .args .s0 * c .args .s1 * c .args .s2 ≤ sideRoom * sideRoom * sideRoom)
+    × (brickBytes (c .args .s0) (c .args .s1) (c .args .s2) (c .args .w) ≤ bytesRoom)
 few c =
-    let two : c .args .s0 * c .args .s1 ≤ 65536 = mul-le-mul (c .pre .0) (c .pre .1) in
-    let three : c .args .s0 * c .args .s1 * c .args .s2 ≤ 16777216 = mul-le-mul two (c .pre .2) in
+    let two : c .args .s0 * c .args .s1 ≤ sideRoom * sideRoom = mul-le-mul (c .pre .0) (c .pre .1) in
+    let three : c .args .s0 * c .args .s1 * c .args .s2 ≤ sideRoom * sideRoom * sideRoom = mul-le-mul two (c .pre .2) in
     (two, three, mul-le-mul three (c .pre .3))
 
 mul-result : tie.Need-mul-result

@@ -29,12 +29,4 @@ returns c =
     rw (c .before .alphas-at .ensures, c .count-at .ensures ∙ halvings (s .pre .0) (s .args .l) .2)
 
 pub bricks-at-spec : {M : Type 1} → statement M
-bricks-at-spec =
-    tie.close
-    (tie.spec
-    alphas-at-requires
-    array-read-count-at
-    array-read-count-at-2
-    count-at-requires
-    mul-result
-    returns)
+bricks-at-spec = tie.close (tie.spec alphas-at-requires array-read-count-at array-read-count-at-2 count-at-requires mul-result returns)

@@ -6,7 +6,7 @@ use borrow.Author.Needs.{needs}
 use Rattle.endian.specs.Loops.{sumTo}
 use Rattle.endian.proofs.Search.{sum-none, sum-more}
 use Rattle.geometry.specs.Geometry.{bricksIn}
-use Rattle.geometry.proofs.Levels.{sizes-small, bricks-few, sum-most}
+use Rattle.geometry.proofs.Levels.{bricksRoom, sizes-small, bricks-few, sum-most}
 use Rattle.geometry.proofs.bricks_below.Statement.{statement}
 use Rattle.geometry.proofs.bricks_below.Tie as tie
 
@@ -27,7 +27,7 @@ add-sum c =
     let s = c .before .before .before in
     let few = sizes-small (s .pre .0) in
     let l = c .before .before .loop .l in
-    let most = sum-most (bricksIn (s .args .size) (s .args .side)) 18014398509481984 (λ m. bricks-few m few) l in
+    let most = sum-most (bricksIn (s .args .size) (s .args .side)) bricksRoom (λ m. bricks-few m few) l in
     omega (arith, c .before .before .loop .inv .1, c .bricks-at .ensures, bricks-few l few, most)
 
 add-l : tie.Need-add-l Inv-loop μ-loop
@@ -45,15 +45,4 @@ returns : tie.Need-returns Inv-loop μ-loop
 returns c = c .before .loop .inv .1 ∙ ap (sumTo (bricksIn (c .before .before .args .size) (c .before .before .args .side))) (omega arith)
 
 pub bricks-below-spec : {M : Type 1} → statement M
-bricks-below-spec =
-    tie.close
-    (tie.spec
-    Inv-loop
-    μ-loop
-    loop-holds
-    bricks-at-requires
-    add-sum
-    add-l
-    loop-less
-    loop-again
-    returns)
+bricks-below-spec = tie.close (tie.spec Inv-loop μ-loop loop-holds bricks-at-requires add-sum add-l loop-less loop-again returns)

@@ -29,5 +29,4 @@ returns : tie.Need-returns
 returns c = search needs
 
 pub entry-at-spec : {M : Type 1} → statement M
-entry-at-spec =
-    tie.close (tie.spec mul-result add-result mul-result-2 add-result-2 add-result-3 returns)
+entry-at-spec = tie.close (tie.spec mul-result add-result mul-result-2 add-result-2 add-result-3 returns)

@@ -4,6 +4,7 @@ use mathlib.Core.Path.{_≡_, sym, _∙_}
 use native.Mathlib.Omega.{arith}
 use borrow.Author.Needs.{needs}
 use Rattle.endian.specs.Loops.{sumTo}
+use Rattle.geometry.specs.Limits.{levelCap}
 use Rattle.geometry.specs.Geometry.{countIn, bricksIn, levelAt}
 use Rattle.geometry.proofs.Levels.{levels-le, halvings}
 use Rattle.geometry.proofs.Entries.{base-rest}
@@ -11,7 +12,7 @@ use Rattle.geometry.proofs.level_of.Statement.{statement}
 use Rattle.geometry.proofs.level_of.Tie as tie
 
 -- the level is one that a cube may have
-few : (c : tie.Start) → c .args .l ≤ 20
+few : (c : tie.Start) → c .args .l ≤ levelCap
 few c = omega (arith, c .pre .1, levels-le (countIn (c .args .t1) (c .args .t2) 0) (countIn (c .args .t1) (c .args .t2) 1) (countIn (c .args .t1) (c .args .t2) 2))
 
 -- the entries before the level
@@ -60,14 +61,5 @@ returns c =
 pub level-of-spec : {M : Type 1} → statement M
 level-of-spec =
     tie.close
-    (tie.spec
-    add-bricks-below
-    bricks-below-requires
-    sub-t11
-    array-read-count-at
-    array-read-count-at-2
-    count-at-requires
-    array-read-count-at-3
-    array-read-count-at-4
-    count-at-requires-2
-    returns)
+    (tie.spec add-bricks-below bricks-below-requires sub-t11 array-read-count-at array-read-count-at-2 count-at-requires array-read-count-at-3
+    array-read-count-at-4 count-at-requires-2 returns)

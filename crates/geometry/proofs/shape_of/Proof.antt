@@ -13,7 +13,7 @@ use Rattle.endian.specs.Loops.{sumTo}
 use Rattle.endian.proofs.Search.{clash, sum-none, sum-more}
 use Rattle.geometry.specs.Geometry.{bricksIn, alphasIn, shapeIn, Sizes}
 use Rattle.geometry.specs.declared.Shape.{Shape}
-use Rattle.geometry.proofs.Levels.{levels-at, sizes-small, sizes-single, tiles-few, bricks-few, sum-most}
+use Rattle.geometry.proofs.Levels.{topLevel, tilesRoom, bricksRoom, levels-at, sizes-small, sizes-single, tiles-few, bricks-few, sum-most}
 use Rattle.geometry.proofs.shape_of.Statement.{statement}
 use Rattle.geometry.proofs.shape_of.Tie as tie
 
@@ -27,18 +27,18 @@ module _ {size side : List ℕ} (s : Sizes size side) where
   counted-start = record { many = λ j h. absurd (omega arith); bricks-sum = sym (sum-none (bricksIn size side)); alphas-sum = sym (sum-none (alphasIn size side)) }
 
   module _ {l bricks alphas : ℕ} (h : Counted size side l bricks alphas) where
-    -- level 18 has one brick, so the search has not passed it
-    counted-few : l ≤ 18
+    -- the top level has one brick, so the search has not passed it
+    counted-few : l ≤ topLevel
     counted-few =
-        elim (decLe l 18) [
+        elim (decLe l topLevel) [
           | yes g ↦ g
-          | no g ↦ clash _ (eq-eqb (bricksIn size side 18) 1 (sizes-single s)) (h .many 18 (lt-of-not-le g))
+          | no g ↦ clash _ (eq-eqb (bricksIn size side topLevel) 1 (sizes-single s)) (h .many topLevel (lt-of-not-le g))
         ]
 
-    counted-small : (bricks + bricksIn size side l ≤ 342273571680157696) × (alphas + alphasIn size side l ≤ 1305670057984)
+    counted-small : (bricks + bricksIn size side l ≤ (topLevel + 1) * bricksRoom) × (alphas + alphasIn size side l ≤ (topLevel + 1) * tilesRoom)
     counted-small = (
-      omega (arith, h .bricks-sum, counted-few, bricks-few l (sizes-small s), sum-most (bricksIn size side) 18014398509481984 (λ m. bricks-few m (sizes-small s)) l),
-      omega (arith, h .alphas-sum, counted-few, tiles-few l (sizes-small s), sum-most (alphasIn size side) 68719476736 (λ m. tiles-few m (sizes-small s)) l),
+      omega (arith, h .bricks-sum, counted-few, bricks-few l (sizes-small s), sum-most (bricksIn size side) bricksRoom (λ m. bricks-few m (sizes-small s)) l),
+      omega (arith, h .alphas-sum, counted-few, tiles-few l (sizes-small s), sum-most (alphasIn size side) tilesRoom (λ m. tiles-few m (sizes-small s)) l),
     )
 
     counted-more : {x y : ℕ} → x ≡ bricksIn size side l → y ≡ alphasIn size side l → (x ≡ 1 → ⊥) → Counted size side (l + 1) (bricks + x) (alphas + y)
@@ -61,7 +61,7 @@ abbrev Inv-loop : tie.InvT-loop
 Inv-loop size side levels₀ bricks₀ alphas₀ levels bricks alphas = Counted size side levels bricks alphas
 
 abbrev μ-loop : tie.MeasureT-loop
-μ-loop size side levels₀ bricks₀ alphas₀ levels bricks alphas = 19 - levels
+μ-loop size side levels₀ bricks₀ alphas₀ levels bricks alphas = topLevel + 1 - levels
 
 loop-holds : tie.Need-loop-holds Inv-loop μ-loop
 loop-holds c = counted-start (c .pre)
@@ -97,15 +97,4 @@ loop-again c =
 pub shape-of-spec : {M : Type 1} → statement M
 shape-of-spec =
     tie.close
-    (tie.spec
-    Inv-loop
-    μ-loop
-    loop-holds
-    bricks-at-requires
-    add-bricks
-    alphas-at-requires
-    add-alphas
-    add-levels
-    returns
-    loop-less
-    loop-again)
+    (tie.spec Inv-loop μ-loop loop-holds bricks-at-requires add-bricks alphas-at-requires add-alphas add-levels returns loop-less loop-again)

@@ -37,14 +37,5 @@ returns c = search needs
 pub list-file-spec : {M : Type 1} → statement M
 list-file-spec =
     tie.close
-    (tie.spec
-    slice-aggregate-read-full
-    read-full-requires
-    slice-aggregate-list
-    array-share-prefix-file
-    slice-aggregate-list-2
-    list-requires
-    array-share-prefix-out
-    slice-aggregate-write-all
-    write-all-requires
-    returns)
+    (tie.spec slice-aggregate-read-full read-full-requires slice-aggregate-list array-share-prefix-file slice-aggregate-list-2 list-requires
+    array-share-prefix-out slice-aggregate-write-all write-all-requires returns)

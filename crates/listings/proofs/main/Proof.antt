@@ -32,15 +32,4 @@ returns : tie.Need-returns Inv-loop μ-loop
 returns c = tt
 
 pub main-spec : {M : Type 1} → statement M
-main-spec =
-    tie.close
-    (tie.spec
-    Inv-loop
-    μ-loop
-    arg-count-requires
-    loop-holds
-    list-argument-requires
-    add-i
-    loop-less
-    loop-again
-    returns)
+main-spec = tie.close (tie.spec Inv-loop μ-loop arg-count-requires loop-holds list-argument-requires add-i loop-less loop-again returns)

@@ -36,13 +36,4 @@ returns-2 c =
     making-rest _ _ _ _ _ (sym (described-is v) ∙ c .before .enum-told2 .given .1) (c .check-rest .ensures)
 
 pub check-making-spec : {M : Type 1} → statement M
-check-making-spec =
-    tie.close
-    (tie.spec
-    text-length-requires
-    check-description-requires
-    enum-told
-    enum-told-2
-    check-rest-requires
-    returns
-    returns-2)
+check-making-spec = tie.close (tie.spec text-length-requires check-description-requires enum-told enum-told-2 check-rest-requires returns returns-2)

@@ -36,14 +36,4 @@ returns-3 c =
     rest-taken _ _ _ _ _ (plan-length _ _ _ _ (a .plan-of .ensures)) (sym (a .before .before .check11 .ensures) ∙ a .before .if1 .left) (c .if2 .left)
 
 pub check-rest-spec : {M : Type 1} → statement M
-check-rest-spec =
-    tie.close
-    (tie.spec
-    check11-requires
-    refuse-requires
-    returns
-    cast-plan-of
-    plan-of-requires
-    refuse-requires-2
-    returns-2
-    returns-3)
+check-rest-spec = tie.close (tie.spec check11-requires refuse-requires returns cast-plan-of plan-of-requires refuse-requires-2 returns-2 returns-3)

@@ -27,13 +27,4 @@ returns-2 : tie.Need-returns-2
 returns-2 c = made-taken _ _ _ _ _ _ (sym (c .before .before .before .before .before .before .check-making .ensures) ∙ c .before .before .before .before .enum-told .given .1) (c .before .before .push-cube .ensures)
 
 pub make-spec : {M : Type 1} → statement M
-make-spec =
-    tie.close
-    (tie.spec
-    check-making-requires
-    enum-known-verdict
-    enum-told
-    push-cube-requires
-    returns
-    same-length
-    returns-2)
+make-spec = tie.close (tie.spec check-making-requires enum-known-verdict enum-told push-cube-requires returns same-length returns-2)

@@ -2,6 +2,7 @@
 use mathlib.Core.Path.{_≡_, ap, _∙_}
 use Prim.Native.Nat.{_*_, _≤_}
 use native.Mathlib.Omega.{arith}
+use Rattle.geometry.specs.Limits.{brickLimit, bytesRoom}
 use Rattle.geometry.specs.declared.Shape.{Shape}
 use Rattle.record.specs.Record.{bricksOf, alphasOf}
 use Rattle.record.proofs.Laws.{shape-bricks, shape-alphas}
@@ -28,7 +29,7 @@ numbers-are c =
 start-is : (c : tie.After-ceil-div) → Multiple (c .before .header-end .result) (c .before .before .brick-bytes-in .result) (c .ceil-div .result)
 start-is c = multiple _ _ _ (numbers-are (c .before) .s-pos) (c .ceil-div .ensures)
 
-bytes-are : (c : tie.After-ceil-div) → c .before .before .before .shape-in .result .bricks * c .before .before .brick-bytes-in .result ≤ 1099511627776
+bytes-are : (c : tie.After-ceil-div) → c .before .before .before .shape-in .result .bricks * c .before .before .brick-bytes-in .result ≤ brickLimit * bytesRoom
 bytes-are c = all-bytes _ _ (numbers-are (c .before) .b-few) (numbers-are (c .before) .s-few)
 
 shape-in-requires : tie.Need-shape-in-requires
@@ -81,17 +82,5 @@ returns-2 c =
 pub plan-of-spec : {M : Type 1} → statement M
 plan-of-spec =
     tie.close
-    (tie.spec
-    shape-in-requires
-    brick-bytes-in-requires
-    header-end-requires
-    ceil-div-requires
-    mul-start
-    sub-after
-    mul-after
-    add-after
-    enum-told
-    enum-told-2
-    add-t12
-    returns
-    returns-2)
+    (tie.spec shape-in-requires brick-bytes-in-requires header-end-requires ceil-div-requires mul-start sub-after mul-after add-after enum-told
+    enum-told-2 add-t12 returns returns-2)

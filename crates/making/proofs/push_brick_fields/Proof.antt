@@ -38,12 +38,4 @@ returns c =
 pub push-brick-fields-spec : {M : Type 1} → statement M
 push-brick-fields-spec =
     tie.close
-    (tie.spec
-    push-three-requires
-    push-requires
-    array-read-push-u32
-    push-u32-requires
-    array-read-push-u32-2
-    push-u32-requires-2
-    same-length
-    returns)
+    (tie.spec push-three-requires push-requires array-read-push-u32 push-u32-requires array-read-push-u32-2 push-u32-requires-2 same-length returns)

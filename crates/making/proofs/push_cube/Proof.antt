@@ -51,13 +51,5 @@ returns c =
 pub push-cube-spec : {M : Type 1} → statement M
 push-cube-spec =
     tie.close
-    (tie.spec
-    cast-plan-of
-    plan-of-requires
-    push-headers-requires
-    mul-push-zeros
-    push-zeros-requires
-    push-entries-requires
-    push-zeros-requires-2
-    same-length
-    returns)
+    (tie.spec cast-plan-of plan-of-requires push-headers-requires mul-push-zeros push-zeros-requires push-entries-requires push-zeros-requires-2
+    same-length returns)

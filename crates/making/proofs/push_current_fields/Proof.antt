@@ -26,6 +26,4 @@ returns c =
     poured-step (poured-step (p1 .push-zeros .ensures) (p2 .push-three .ensures)) (p3 .push-zeros2 .ensures)
 
 pub push-current-fields-spec : {M : Type 1} → statement M
-push-current-fields-spec =
-    tie.close
-    (tie.spec push-zeros-requires push-three-requires push-zeros-requires-2 same-length returns)
+push-current-fields-spec = tie.close (tie.spec push-zeros-requires push-three-requires push-zeros-requires-2 same-length returns)

@@ -58,15 +58,4 @@ returns c =
 pub push-entries-spec : {M : Type 1} → statement M
 push-entries-spec =
     tie.close
-    (tie.spec
-    Inv-loop
-    μ-loop
-    least-requires
-    loop-holds
-    push-u64-requires
-    add-value
-    add-entry
-    loop-less
-    loop-again
-    same-length
-    returns)
+    (tie.spec Inv-loop μ-loop least-requires loop-holds push-u64-requires add-value add-entry loop-less loop-again same-length returns)

@@ -29,12 +29,4 @@ returns c =
     poured-step (poured-step (p1 .push-bytes .ensures) (p2 .push-u32 .ensures)) (p3 .push .ensures)
 
 pub push-file-header-spec : {M : Type 1} → statement M
-push-file-header-spec =
-    tie.close
-    (tie.spec
-    slice-aggregate-push-bytes
-    push-bytes-requires
-    push-u32-requires
-    push-requires
-    same-length
-    returns)
+push-file-header-spec = tie.close (tie.spec slice-aggregate-push-bytes push-bytes-requires push-u32-requires push-requires same-length returns)

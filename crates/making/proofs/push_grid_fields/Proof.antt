@@ -26,6 +26,4 @@ returns c =
     poured-step (poured-step (p1 .push-three .ensures) (p2 .push-three2 .ensures)) (p3 .push-three3 .ensures)
 
 pub push-grid-fields-spec : {M : Type 1} → statement M
-push-grid-fields-spec =
-    tie.close
-    (tie.spec push-three-requires push-three-requires-2 push-three-requires-3 same-length returns)
+push-grid-fields-spec = tie.close (tie.spec push-three-requires push-three-requires-2 push-three-requires-3 same-length returns)

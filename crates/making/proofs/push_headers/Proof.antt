@@ -37,11 +37,4 @@ returns c =
 pub push-headers-spec : {M : Type 1} → statement M
 push-headers-spec =
     tie.close
-    (tie.spec
-    push-file-header-requires
-    cast-push-info-header
-    push-info-header-requires
-    push-bytes-requires
-    push-zeros-requires
-    same-length
-    returns)
+    (tie.spec push-file-header-requires cast-push-info-header push-info-header-requires push-bytes-requires push-zeros-requires same-length returns)

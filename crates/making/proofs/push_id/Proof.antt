@@ -66,24 +66,6 @@ returns c = c .before .before .push-bytes .ensures
 pub push-id-spec : {M : Type 1} → statement M
 push-id-spec =
     tie.close
-    (tie.spec
-    array-read-t8
-    array-read-t11
-    array-read-t14
-    array-read-t17
-    array-read-t20
-    array-read-t23
-    array-read-t26
-    array-read-t29
-    array-read-t32
-    array-read-t35
-    array-read-t38
-    array-read-t41
-    array-read-t44
-    array-read-t47
-    array-read-t50
-    array-read-t53
-    slice-aggregate-push-bytes
-    push-bytes-requires
-    same-length
-    returns)
+    (tie.spec array-read-t8 array-read-t11 array-read-t14 array-read-t17 array-read-t20 array-read-t23 array-read-t26 array-read-t29 array-read-t32
+    array-read-t35 array-read-t38 array-read-t41 array-read-t44 array-read-t47 array-read-t50 array-read-t53 slice-aggregate-push-bytes
+    push-bytes-requires same-length returns)

@@ -30,12 +30,4 @@ returns c =
     poured-step (poured-step (poured-step (p1 .push-id .ensures) (p2 .push-id2 .ensures)) (p3 .push-id3 .ensures)) (p4 .push .ensures)
 
 pub push-id-fields-spec : {M : Type 1} → statement M
-push-id-fields-spec =
-    tie.close
-    (tie.spec
-    push-id-requires
-    push-id-requires-2
-    push-id-requires-3
-    push-requires
-    same-length
-    returns)
+push-id-fields-spec = tie.close (tie.spec push-id-requires push-id-requires-2 push-id-requires-3 push-requires same-length returns)

@@ -48,14 +48,5 @@ returns c =
 pub push-info-header-spec : {M : Type 1} → statement M
 push-info-header-spec =
     tie.close
-    (tie.spec
-    push-brick-fields-requires
-    push-id-fields-requires
-    push-grid-fields-requires
-    push-current-fields-requires
-    push-survey-fields-requires
-    push-zeros-requires
-    push-unit-fields-requires
-    push-u32-requires
-    same-length
-    returns)
+    (tie.spec push-brick-fields-requires push-id-fields-requires push-grid-fields-requires push-current-fields-requires push-survey-fields-requires
+    push-zeros-requires push-unit-fields-requires push-u32-requires same-length returns)

@@ -29,12 +29,4 @@ returns c =
     rw (← surveyed (s .before .before .before .args .d) _ (s .survey-sizes .ensures)) (poured-step (poured-step (p1 .push-three .ensures) (p2 .push-three2 .ensures)) (p3 .push .ensures))
 
 pub push-survey-fields-spec : {M : Type 1} → statement M
-push-survey-fields-spec =
-    tie.close
-    (tie.spec
-    survey-sizes-requires
-    push-three-requires
-    push-three-requires-2
-    push-requires
-    same-length
-    returns)
+push-survey-fields-spec = tie.close (tie.spec survey-sizes-requires push-three-requires push-three-requires-2 push-requires same-length returns)

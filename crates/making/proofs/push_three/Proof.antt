@@ -35,12 +35,5 @@ returns c =
 pub push-three-spec : {M : Type 1} → statement M
 push-three-spec =
     tie.close
-    (tie.spec
-    array-read-push-u32
-    push-u32-requires
-    array-read-push-u32-2
-    push-u32-requires-2
-    array-read-push-u32-3
-    push-u32-requires-3
-    same-length
+    (tie.spec array-read-push-u32 push-u32-requires array-read-push-u32-2 push-u32-requires-2 array-read-push-u32-3 push-u32-requires-3 same-length
     returns)

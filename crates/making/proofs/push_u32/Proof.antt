@@ -44,14 +44,4 @@ returns c =
 pub push-u32-spec : {M : Type 1} → statement M
 push-u32-spec =
     tie.close
-    (tie.spec
-    cast-push
-    push-requires
-    cast-push-2
-    push-requires-2
-    cast-push-3
-    push-requires-3
-    cast-push-4
-    push-requires-4
-    same-length
-    returns)
+    (tie.spec cast-push push-requires cast-push-2 push-requires-2 cast-push-3 push-requires-3 cast-push-4 push-requires-4 same-length returns)

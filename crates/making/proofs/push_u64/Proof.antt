@@ -27,12 +27,4 @@ returns c =
     rw (← lows-halves _) (poured-step (p1 .push-u32 .ensures) (p2 .push-u322 .ensures))
 
 pub push-u64-spec : {M : Type 1} → statement M
-push-u64-spec =
-    tie.close
-    (tie.spec
-    cast-push-u32
-    push-u32-requires
-    cast-push-u32-2
-    push-u32-requires-2
-    same-length
-    returns)
+push-u64-spec = tie.close (tie.spec cast-push-u32 push-u32-requires cast-push-u32-2 push-u32-requires-2 same-length returns)

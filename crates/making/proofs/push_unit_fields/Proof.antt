@@ -30,12 +30,4 @@ returns c =
     poured-step (poured-step (poured-step (p1 .push .ensures) (p2 .push-u64 .ensures)) (p3 .push2 .ensures)) (p4 .push-u642 .ensures)
 
 pub push-unit-fields-spec : {M : Type 1} → statement M
-push-unit-fields-spec =
-    tie.close
-    (tie.spec
-    push-requires
-    push-u64-requires
-    push-requires-2
-    push-u64-requires-2
-    same-length
-    returns)
+push-unit-fields-spec = tie.close (tie.spec push-requires push-u64-requires push-requires-2 push-u64-requires-2 same-length returns)

@@ -52,17 +52,5 @@ returns c =
 pub push-zeros-spec : {M : Type 1} → statement M
 push-zeros-spec =
     tie.close
-    (tie.spec
-    Inv-loop
-    μ-loop
-    least-requires
-    sub-least
-    least-requires-2
-    add-end
-    loop-holds
-    slice-write-out
-    add-i
-    loop-less
-    loop-again
-    same-length
+    (tie.spec Inv-loop μ-loop least-requires sub-least least-requires-2 add-end loop-holds slice-write-out add-i loop-less loop-again same-length
     returns)

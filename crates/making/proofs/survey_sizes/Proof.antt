@@ -48,17 +48,5 @@ returns c =
 pub survey-sizes-spec : {M : Type 1} → statement M
 survey-sizes-spec =
     tie.close
-    (tie.spec
-    array-read-float-of
-    float-of-requires
-    array-read-survey-size
-    survey-size-requires
-    array-read-float-of-2
-    float-of-requires-2
-    array-read-survey-size-2
-    survey-size-requires-2
-    array-read-float-of-3
-    float-of-requires-3
-    array-read-survey-size-3
-    survey-size-requires-3
-    returns)
+    (tie.spec array-read-float-of float-of-requires array-read-survey-size survey-size-requires array-read-float-of-2 float-of-requires-2
+    array-read-survey-size-2 survey-size-requires-2 array-read-float-of-3 float-of-requires-3 array-read-survey-size-3 survey-size-requires-3 returns)

@@ -1,7 +1,7 @@
 -- `positions::position` meets its contract. Assumes nothing.
 use mathlib.Core.Path.{sym, _∙_}
 use native.Mathlib.Omega.{arith}
-use Rattle.positions.proofs.Verdicts.{grid-finite, index-small, breaks-14, no-dimension, no-index, inside, refused-is, taken-is}
+use Rattle.positions.proofs.Answers.{grid-finite, index-small, breaks-14, no-dimension, no-index, inside}
 use borrow.Author.Needs.{needs}
 use Rattle.positions.proofs.position.Statement.{statement}
 use Rattle.positions.proofs.position.Tie as tie
@@ -15,7 +15,7 @@ refuse-requires c κs = search needs
 returns : tie.Need-returns
 returns c =
     let s = c .before .before in
-    refused-is _ _ _ _ 14 (c .refuse .ensures) (breaks-14 _ _ _ (sym (s .check14 .ensures) ∙ c .before .if1 .taken))
+    breaks-14 _ _ _ _ (c .refuse .ensures) (sym (s .check14 .ensures) ∙ c .before .if1 .taken)
 
 refuse-requires-2 : tie.Need-refuse-requires-2
 refuse-requires-2 c κs = search needs
@@ -23,7 +23,7 @@ refuse-requires-2 c κs = search needs
 returns-2 : tie.Need-returns-2
 returns-2 c =
     let s = c .before .before .before in
-    refused-is _ _ _ _ 16 (c .refuse2 .ensures) (no-dimension _ _ _ (sym (s .check14 .ensures) ∙ c .before .before .if1 .left) (omega arith))
+    no-dimension _ _ _ _ (c .refuse2 .ensures) (sym (s .check14 .ensures) ∙ c .before .before .if1 .left) (omega arith)
 
 mul-if3 : tie.Need-mul-if3
 mul-if3 c = search needs
@@ -38,7 +38,7 @@ returns-3 : tie.Need-returns-3
 returns-3 c =
     let t = c .before .before .before .before in
     let s = t .before .before in
-    refused-is _ _ _ _ 16 (c .refuse3 .ensures) (no-index _ _ _ (sym (s .check14 .ensures) ∙ t .before .if1 .left) (omega arith) (omega arith))
+    no-index _ _ _ _ (c .refuse3 .ensures) (sym (s .check14 .ensures) ∙ t .before .if1 .left) (omega arith) (omega arith)
 
 mul-position : tie.Need-mul-position
 mul-position c = search needs
@@ -65,24 +65,10 @@ returns-4 : tie.Need-returns-4
 returns-4 c =
     let t = c .before .before .before .before .before .before .before in
     let s = t .before .before in
-    taken-is _ _ _ _ (inside _ _ _ (sym (s .check14 .ensures) ∙ t .before .if1 .left) (omega arith) (omega arith)) (c .position .ensures)
+    inside _ _ _ _ (sym (s .check14 .ensures) ∙ t .before .if1 .left) (omega arith) (omega arith) (c .position .ensures)
 
 pub position-spec : {M : Type 1} → statement M
 position-spec =
     tie.close
-    (tie.spec
-    check14-requires
-    refuse-requires
-    returns
-    refuse-requires-2
-    returns-2
-    mul-if3
-    array-read-if3
-    refuse-requires-3
-    returns-3
-    mul-position
-    array-read-position
-    mul-position-2
-    array-read-position-2
-    position-requires
-    returns-4)
+    (tie.spec check14-requires refuse-requires returns refuse-requires-2 returns-2 mul-if3 array-read-if3 refuse-requires-3 returns-3 mul-position
+    array-read-position mul-position-2 array-read-position-2 position-requires returns-4)

@@ -51,17 +51,5 @@ returns c = turns-all (c .before .loop .inv) (c .loop-test .left)
 pub fill-spec : {M : Type 1} → statement M
 fill-spec =
     tie.close
-    (tie.spec
-    Inv-loop
-    μ-loop
-    loop-holds
-    add-e
-    sub-put-value
-    part-put-value-start
-    part-put-value-end
-    put-value-requires
-    add-t
-    loop-less
-    loop-again
-    same-length
-    returns)
+    (tie.spec Inv-loop μ-loop loop-holds add-e sub-put-value part-put-value-start part-put-value-end put-value-requires add-t loop-less loop-again
+    same-length returns)

@@ -43,13 +43,4 @@ returns-3 c = let s = c .before .before .before .before .before .before .args in
 pub fill-items-spec : {M : Type 1} → statement M
 fill-items-spec =
     tie.close
-    (tie.spec
-    fill-requires
-    fill-requires-2
-    fill-requires-3
-    same-length
-    returns
-    same-length-2
-    returns-2
-    same-length-3
-    returns-3)
+    (tie.spec fill-requires fill-requires-2 fill-requires-3 same-length returns same-length-2 returns-2 same-length-3 returns-3)

@@ -43,16 +43,4 @@ returns : tie.Need-returns Inv-loop μ-loop
 returns c = filled-all (c .before .loop .inv .0) (omega arith) ∙ ap (λ n. lows n (c .before .before .args .value)) (omega arith)
 
 pub put-value-spec : {M : Type 1} → statement M
-put-value-spec =
-    tie.close
-    (tie.spec
-    Inv-loop
-    μ-loop
-    loop-holds
-    cast-out
-    slice-write-out
-    add-t
-    loop-less
-    loop-again
-    same-length
-    returns)
+put-value-spec = tie.close (tie.spec Inv-loop μ-loop loop-holds cast-out slice-write-out add-t loop-less loop-again same-length returns)

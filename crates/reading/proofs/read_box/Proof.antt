@@ -42,4 +42,6 @@ returns-2 : tie.Need-returns-2
 returns-2 c = search needs
 
 pub read-box-spec : {M : Type 1} → statement M
-read-box-spec = tie.close (tie.spec kind-on-requires item-on-requires read-lines-requires read-planes-requires same-length returns same-length-2 returns-2)
+read-box-spec =
+    tie.close
+    (tie.spec kind-on-requires item-on-requires read-lines-requires read-planes-requires same-length returns same-length-2 returns-2)

@@ -68,4 +68,6 @@ returns : tie.Need-returns Inv-loop μ-loop
 returns c = let e : c .before .loop .k ≡ runOf (start (c .before) .args .g) 2 = omega (arith, count (c .before)) in rw e at (c .before .loop .inv .0)
 
 pub read-boxes-spec : {M : Type 1} → statement M
-read-boxes-spec = tie.close (tie.spec Inv-loop μ-loop loop-holds sub-left left-requires read-box-requires add-k loop-less loop-again same-length returns)
+read-boxes-spec =
+    tie.close
+    (tie.spec Inv-loop μ-loop loop-holds sub-left left-requires read-box-requires add-k loop-less loop-again same-length returns)

@@ -4,6 +4,8 @@ use mathlib.Core.Path.{_≡_, refl, _∙_}
 use native.Mathlib.Omega.{arith}
 use native.Mathlib.Nat.{zero-add}
 use Rattle.cube.specs.Regions.{runOf, rawRows}
+use Rattle.cube.specs.Places.{rowsOf, rawOf}
+use Rattle.cube.proofs.Rows.{by-place}
 use Rattle.runs.specs.Boxes.{Along}
 use Rattle.runs.proofs.Boxes.{boxed-none0, boxed-more0, boxed-all}
 use Rattle.runs.proofs.Steps.{counts}
@@ -68,7 +70,10 @@ returns : tie.Need-returns Inv-loop μ-loop
 unfolding rawRows
 returns c =
     let e : c .before .loop .i ≡ runOf (start (c .before) .args .g) 0 = omega (arith, count (c .before)) in
-    boxed-all (start (c .before) .pre .0 .1) (rw e at (c .before .loop .inv .0))
+    let a = start (c .before) .args in
+    boxed-all (start (c .before) .pre .0 .1) (rw e at (c .before .loop .inv .0)) ∙ by-place (a .g) (λ p. rawOf (a .r) (rowsOf (a .r) (a .file .now) p))
 
 pub read-bricks-spec : {M : Type 1} → statement M
-read-bricks-spec = tie.close (tie.spec Inv-loop μ-loop loop-holds sub-left left-requires read-columns-requires add-i loop-less loop-again same-length returns)
+read-bricks-spec =
+    tie.close
+    (tie.spec Inv-loop μ-loop loop-holds sub-left left-requires read-columns-requires add-i loop-less loop-again same-length returns)

@@ -68,4 +68,6 @@ returns : tie.Need-returns Inv-loop μ-loop
 returns c = let e : c .before .loop .j ≡ runOf (start (c .before) .args .g) 1 = omega (arith, count (c .before)) in rw e at (c .before .loop .inv .0)
 
 pub read-columns-spec : {M : Type 1} → statement M
-read-columns-spec = tie.close (tie.spec Inv-loop μ-loop loop-holds sub-left left-requires read-column-requires add-j loop-less loop-again same-length returns)
+read-columns-spec =
+    tie.close
+    (tie.spec Inv-loop μ-loop loop-holds sub-left left-requires read-column-requires add-j loop-less loop-again same-length returns)

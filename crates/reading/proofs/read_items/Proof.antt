@@ -1,7 +1,5 @@
 -- `reading::read_items` meets its contract. Assumes nothing.
-use mathlib.Core.Path.{_∙_}
 use native.Mathlib.Omega.{arith}
-use Rattle.reading.proofs.Values.{zeros}
 use Rattle.reading.proofs.Turns.{by-kind, copied}
 use borrow.Author.Needs.{needs}
 use Rattle.reading.proofs.read_items.Statement.{statement}
@@ -10,17 +8,14 @@ use Rattle.reading.proofs.read_items.Tie as tie
 enum-told : tie.Need-enum-told
 enum-told c = search needs
 
-mul-fill : tie.Need-mul-fill
-mul-fill c = search needs
-
-fill-requires : tie.Need-fill-requires
-fill-requires c κs = search needs
+fill-items-requires : tie.Need-fill-items-requires
+fill-items-requires c κs = search needs
 
 enum-known-kind : tie.Need-enum-known-kind
 enum-known-kind c = search needs
 
-fill-items-requires : tie.Need-fill-items-requires
-fill-items-requires c κs = search needs
+fill-items-requires-2 : tie.Need-fill-items-requires-2
+fill-items-requires-2 c κs = search needs
 
 enum-known-kind-2 : tie.Need-enum-known-kind-2
 enum-known-kind-2 c = search needs
@@ -53,13 +48,13 @@ same-length : tie.Need-same-length
 same-length c = search needs
 
 returns : tie.Need-returns
-returns c = by-kind _ _ _ _ _ _ _ (c .before .before .before .before .enum-told .given .1) (c .before .before .fill .ensures ∙ zeros _)
+returns c = by-kind _ _ _ _ _ _ _ _ (c .before .before .before .before .enum-told .given .1) (c .before .before .fill-items .ensures)
 
 same-length-2 : tie.Need-same-length-2
 same-length-2 c = search needs
 
 returns-2 : tie.Need-returns-2
-returns-2 c = by-kind _ _ _ _ _ _ _ (c .before .before .before .before .before .kind .given .1) (c .before .before .fill-items .ensures)
+returns-2 c = by-kind _ _ _ _ _ _ _ _ (c .before .before .before .before .before .kind .given .1) (c .before .before .fill-items2 .ensures)
 
 same-length-3 : tie.Need-same-length-3
 same-length-3 c = search needs
@@ -67,29 +62,10 @@ same-length-3 c = search needs
 returns-3 : tie.Need-returns-3
 returns-3 c =
     let a = c .before .before .before .before .before .before .before .before .before .before .args in
-    by-kind _ _ _ _ _ _ _ (c .before .before .before .before .before .before .kind2 .given .1) (copied (a .file .now) (a .w) _ (a .item) (a .n) _ (c .before .before .copy .ensures))
+    by-kind _ _ _ _ _ _ _ _ (c .before .before .before .before .before .before .kind2 .given .1) (copied (a .file .now) (a .w) (a .missing .value) _ (a .item) (a .n) _ (c .before .before .copy .ensures))
 
 pub read-items-spec : {M : Type 1} → statement M
 read-items-spec =
     tie.close
-    (tie.spec
-    enum-told
-    mul-fill
-    fill-requires
-    enum-known-kind
-    fill-items-requires
-    enum-known-kind-2
-    mul-p
-    add-p
-    mul-e
-    add-e
-    sub-copy
-    part-copy-start
-    part-copy-end
-    copy-requires
-    same-length
-    returns
-    same-length-2
-    returns-2
-    same-length-3
-    returns-3)
+    (tie.spec enum-told fill-items-requires enum-known-kind fill-items-requires-2 enum-known-kind-2 mul-p add-p mul-e add-e sub-copy part-copy-start
+    part-copy-end copy-requires same-length returns same-length-2 returns-2 same-length-3 returns-3)

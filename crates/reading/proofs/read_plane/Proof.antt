@@ -90,21 +90,5 @@ returns-2 c = search needs
 pub read-plane-spec : {M : Type 1} → statement M
 read-plane-spec =
     tie.close
-    (tie.spec
-    index-requires
-    mul-n
-    mul-a
-    add-a
-    mul-a-2
-    mul-a-3
-    mul-e
-    add-e
-    sub-read-items
-    part-read-items-start
-    part-read-items-end
-    read-items-requires
-    read-rows-requires
-    same-length
-    returns
-    same-length-2
-    returns-2)
+    (tie.spec index-requires mul-n mul-a add-a mul-a-2 mul-a-3 mul-e add-e sub-read-items part-read-items-start part-read-items-end
+    read-items-requires read-rows-requires same-length returns same-length-2 returns-2)

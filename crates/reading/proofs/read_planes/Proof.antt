@@ -64,17 +64,4 @@ returns c = let e : c .before .loop .t ≡ start (c .before) .args .ni = omega a
 pub read-planes-spec : {M : Type 1} → statement M
 read-planes-spec =
     tie.close
-    (tie.spec
-    Inv-loop
-    μ-loop
-    mul-plane
-    loop-holds
-    mul-m
-    add-m
-    add-read-plane
-    read-plane-requires
-    add-t
-    loop-less
-    loop-again
-    same-length
-    returns)
+    (tie.spec Inv-loop μ-loop mul-plane loop-holds mul-m add-m add-read-plane read-plane-requires add-t loop-less loop-again same-length returns)

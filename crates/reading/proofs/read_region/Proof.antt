@@ -69,14 +69,5 @@ returns c =
 pub read-region-spec : {M : Type 1} → statement M
 read-region-spec =
     tie.close
-    (tie.spec
-    lattice-of-requires
-    index-requires
-    mul-n
-    mul-n-2
-    mul-n-3
-    slice-relend-prefix-read-bricks
-    slice-aggregate-read-bricks
-    read-bricks-requires
-    same-length
-    returns)
+    (tie.spec lattice-of-requires index-requires mul-n mul-n-2 mul-n-3 slice-relend-prefix-read-bricks slice-aggregate-read-bricks
+    read-bricks-requires same-length returns)

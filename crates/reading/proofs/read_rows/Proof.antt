@@ -97,7 +97,9 @@ read-items-requires c κs =
     ((f .0, omega arith), f .1)
 
 add-t : tie.Need-add-t Inv-loop μ-loop
-add-t c = omega arith
+add-t c =
+    let l = c .before .before .before .before .before .before .before in
+    omega (arith, l .loop-test .taken, start (l .before .before))
 
 loop-less : tie.Need-loop-less Inv-loop μ-loop
 loop-less c = omega arith
@@ -121,27 +123,5 @@ returns c = let e : c .before .loop .t ≡ start (c .before .before) .args .nj =
 pub read-rows-spec : {M : Type 1} → statement M
 read-rows-spec =
     tie.close
-    (tie.spec
-    Inv-loop
-    μ-loop
-    index-requires
-    loop-holds
-    mul-a
-    add-a
-    add-a-2
-    mul-a-2
-    add-a-3
-    mul-a-3
-    mul-e
-    add-e
-    sub-read-items
-    part-read-items-start
-    part-read-items-end
-    mul-read-items
-    add-read-items
-    read-items-requires
-    add-t
-    loop-less
-    loop-again
-    same-length
-    returns)
+    (tie.spec Inv-loop μ-loop index-requires loop-holds mul-a add-a add-a-2 mul-a-2 add-a-3 mul-a-3 mul-e add-e sub-read-items part-read-items-start
+    part-read-items-end mul-read-items add-read-items read-items-requires add-t loop-less loop-again same-length returns)

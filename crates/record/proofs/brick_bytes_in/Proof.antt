@@ -40,14 +40,5 @@ returns c = (rw (← c .before .width-of .ensures) (c .brick-bytes .ensures .0),
 pub brick-bytes-in-spec : {M : Type 1} → statement M
 brick-bytes-in-spec =
     tie.close
-    (tie.spec
-    array-read-brick-bytes
-    cast-brick-bytes
-    array-read-brick-bytes-2
-    cast-brick-bytes-2
-    array-read-brick-bytes-3
-    cast-brick-bytes-3
-    width-of-requires
-    cast-brick-bytes-4
-    brick-bytes-requires
-    returns)
+    (tie.spec array-read-brick-bytes cast-brick-bytes array-read-brick-bytes-2 cast-brick-bytes-2 array-read-brick-bytes-3 cast-brick-bytes-3
+    width-of-requires cast-brick-bytes-4 brick-bytes-requires returns)

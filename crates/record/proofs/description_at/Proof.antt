@@ -53,19 +53,5 @@ returns c = cc
 pub description-at-spec : {M : Type 1} → statement M
 description-at-spec =
     tie.close
-    (tie.spec
-    three-at-requires
-    u8-at-requires
-    two-at-requires
-    id-at-requires
-    id-at-requires-2
-    id-at-requires-3
-    u8-at-requires-2
-    three-at-requires-2
-    three-at-requires-3
-    three-at-requires-4
-    u8-at-requires-3
-    u64-at-requires
-    u8-at-requires-4
-    u64-at-requires-2
-    returns)
+    (tie.spec three-at-requires u8-at-requires two-at-requires id-at-requires id-at-requires-2 id-at-requires-3 u8-at-requires-2 three-at-requires-2
+    three-at-requires-3 three-at-requires-4 u8-at-requires-3 u64-at-requires u8-at-requires-4 u64-at-requires-2 returns)

@@ -35,13 +35,5 @@ returns c = cc
 pub grid-of-spec : {M : Type 1} → statement M
 grid-of-spec =
     tie.close
-    (tie.spec
-    floats-of-requires
-    floats-of-requires-2
-    array-read-bound-of
-    bound-of-requires
-    float-of-requires
-    array-read-bound-of-2
-    bound-of-requires-2
-    float-of-requires-2
-    returns)
+    (tie.spec floats-of-requires floats-of-requires-2 array-read-bound-of bound-of-requires float-of-requires array-read-bound-of-2
+    bound-of-requires-2 float-of-requires-2 returns)

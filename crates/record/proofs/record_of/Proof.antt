@@ -51,13 +51,4 @@ returns c =
     simp (a .before .grid-of .ensures, c .before .before .before .header-end .ensures, levels-are a, bricks-are a, alphas-are a)
 
 pub record-of-spec : {M : Type 1} → statement M
-record-of-spec =
-    tie.close
-    (tie.spec
-    grid-of-requires
-    shape-in-requires
-    header-end-requires
-    cast-t9
-    cast-t10
-    cast-t11
-    returns)
+record-of-spec = tie.close (tie.spec grid-of-requires shape-in-requires header-end-requires cast-t9 cast-t10 cast-t11 returns)

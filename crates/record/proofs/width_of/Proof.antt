@@ -30,13 +30,4 @@ unfolding widthOf
 returns-3 c = ap itemWidth (sym (c .enum-told .given .1) ∙ c .before .before .coding-of .ensures)
 
 pub width-of-spec : {M : Type 1} → statement M
-width-of-spec =
-    tie.close
-    (tie.spec
-    coding-of-requires
-    enum-known-coding
-    enum-known-coding-2
-    enum-told
-    returns
-    returns-2
-    returns-3)
+width-of-spec = tie.close (tie.spec coding-of-requires enum-known-coding enum-known-coding-2 enum-told returns returns-2 returns-3)

@@ -2,7 +2,7 @@
 use native.Mathlib.Omega.{arith}
 use Rattle.checks.proofs.Described.{described-sides}
 use Rattle.runs.proofs.Lattices.{level-asks}
-use Rattle.regions.proofs.Blocks.{fit-of, runs-of, BlockParts, first-ok, layer-small, block-made}
+use Rattle.regions.proofs.Blocks.{fit-of, within-of, BlockParts, first-ok, layer-small, block-made}
 use borrow.Author.Needs.{needs}
 use Rattle.regions.proofs.block_of.Statement.{statement}
 use Rattle.regions.proofs.block_of.Tie as tie
@@ -24,7 +24,7 @@ array-read-bricks-along-3 c = search needs
 bricks-along-requires : tie.Need-bricks-along-requires
 bricks-along-requires c κs =
     let s = c .before .before .before .before .before in
-    (described-sides _ _ (fit-of (s .args .r) (s .args .g) (s .pre) .is-described) .0, runs-of (s .args .r) (s .args .g) (s .pre) .inline .some)
+    (described-sides _ _ (fit-of (s .args .r) (s .args .g) (s .pre) .is-described) .0, within-of (s .args .r) (s .args .g) (s .pre) .run0 .0)
 
 array-read-bricks-along-4 : tie.Need-array-read-bricks-along-4
 array-read-bricks-along-4 c = search needs
@@ -38,7 +38,7 @@ array-read-bricks-along-6 c = search needs
 bricks-along-requires-2 : tie.Need-bricks-along-requires-2
 bricks-along-requires-2 c κs =
     let s = c .before .before .before .before .before .before in
-    (described-sides _ _ (fit-of (s .args .r) (s .args .g) (s .pre) .is-described) .1, runs-of (s .args .r) (s .args .g) (s .pre) .crossline .some)
+    (described-sides _ _ (fit-of (s .args .r) (s .args .g) (s .pre) .is-described) .1, within-of (s .args .r) (s .args .g) (s .pre) .run1 .0)
 
 array-read-bricks-along-7 : tie.Need-array-read-bricks-along-7
 array-read-bricks-along-7 c = search needs
@@ -52,7 +52,7 @@ array-read-bricks-along-9 c = search needs
 bricks-along-requires-3 : tie.Need-bricks-along-requires-3
 bricks-along-requires-3 c κs =
     let s = c .before .before .before .before .before .before .before in
-    (described-sides _ _ (fit-of (s .args .r) (s .args .g) (s .pre) .is-described) .2, runs-of (s .args .r) (s .args .g) (s .pre) .vertical .some)
+    (described-sides _ _ (fit-of (s .args .r) (s .args .g) (s .pre) .is-described) .2, within-of (s .args .r) (s .args .g) (s .pre) .run2 .0)
 
 abbrev start : tie.After-bricks-along3 → tie.Start
 start c = c .before .before .before .before .before .before .before .before
@@ -78,20 +78,6 @@ returns c = block-made (parts (c .before .before)) _ (c .before .entry-at .ensur
 pub block-of-spec : {M : Type 1} → statement M
 block-of-spec =
     tie.close
-    (tie.spec
-    level-in-requires
-    array-read-bricks-along
-    array-read-bricks-along-2
-    array-read-bricks-along-3
-    bricks-along-requires
-    array-read-bricks-along-4
-    array-read-bricks-along-5
-    array-read-bricks-along-6
-    bricks-along-requires-2
-    array-read-bricks-along-7
-    array-read-bricks-along-8
-    array-read-bricks-along-9
-    bricks-along-requires-3
-    entry-at-requires
-    mul-t33
-    returns)
+    (tie.spec level-in-requires array-read-bricks-along array-read-bricks-along-2 array-read-bricks-along-3 bricks-along-requires
+    array-read-bricks-along-4 array-read-bricks-along-5 array-read-bricks-along-6 bricks-along-requires-2 array-read-bricks-along-7
+    array-read-bricks-along-8 array-read-bricks-along-9 bricks-along-requires-3 entry-at-requires mul-t33 returns)

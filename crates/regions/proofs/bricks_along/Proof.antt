@@ -5,7 +5,7 @@ use native.Mathlib.Omega.{arith}
 use native.Mathlib.Nat.{div-le-self}
 use native.Mathlib.Numerals.{add-one}
 use Rattle.runs.proofs.Lattices.{side-pos}
-use Rattle.regions.proofs.Blocks.{div-up}
+use Rattle.regions.proofs.Lowest.{div-mono}
 use borrow.Author.Needs.{needs}
 use Rattle.regions.proofs.bricks_along.Statement.{statement}
 use Rattle.regions.proofs.bricks_along.Tie as tie
@@ -24,7 +24,7 @@ up : (c : tie.After-over2) → c .before .before .before .over .result ≤ c .ov
 up c =
     let s = start c in
     let a = s .args in
-    omega (arith, first-is c, last-is c, div-up (a .side) (a .start) (a .start + a .count - 1) (side-pos (a .side) (s .pre .0)) (omega (arith, s .pre .1)))
+    omega (arith, first-is c, last-is c, div-mono (a .side) (a .start) (a .start + a .count - 1) (side-pos (a .side) (s .pre .0)) (omega (arith, s .pre .1)))
 
 index-requires : tie.Need-index-requires
 index-requires c κs = search needs
@@ -62,15 +62,4 @@ returns c = simp add-one (ap₂ (λ (x y : ℕ). record { first = x; span = suc 
 pub bricks-along-spec : {M : Type 1} → statement M
 bricks-along-spec =
     tie.close
-    (tie.spec
-    index-requires
-    index-requires-2
-    over-requires
-    index-requires-3
-    index-requires-4
-    add-over
-    sub-over
-    over-requires-2
-    sub-t7
-    add-t10
-    returns)
+    (tie.spec index-requires index-requires-2 over-requires index-requires-3 index-requires-4 add-over sub-over over-requires-2 sub-t7 add-t10 returns)

@@ -2,7 +2,8 @@
 use mathlib.Core.Path.{sym, _∙_}
 use native.Mathlib.Omega.{arith}
 use borrow.Author.Tests.{not-true, not-false}
-use Rattle.regions.proofs.Verdicts.{stop14, stop15, stop16, stop18, go-on, allowed-of, passed-of}
+use Rattle.cube.proofs.Regions.{stop14, stop15, stop16, stop18, go-on}
+use Rattle.regions.proofs.Verdicts.{allowed-of, passed-of}
 use borrow.Author.Needs.{needs}
 use Rattle.regions.proofs.check_region.Statement.{statement}
 use Rattle.regions.proofs.check_region.Tie as tie
@@ -73,17 +74,5 @@ returns-5 c =
 pub check-region-spec : {M : Type 1} → statement M
 check-region-spec =
     tie.close
-    (tie.spec
-    check14-with-requires
-    refuse-requires
-    returns
-    refuse-requires-2
-    returns-2
-    in-extent-requires
-    refuse-requires-3
-    returns-3
-    needed-requires
-    refuse-requires-4
-    returns-4
-    check-entries-requires
-    returns-5)
+    (tie.spec check14-with-requires refuse-requires returns refuse-requires-2 returns-2 in-extent-requires refuse-requires-3 returns-3 needed-requires
+    refuse-requires-4 returns-4 check-entries-requires returns-5)

@@ -56,17 +56,6 @@ returns c = rw (c .before .before .run-inside .ensures, c .before .run-inside2 .
 pub in-extent-spec : {M : Type 1} → statement M
 in-extent-spec =
     tie.close
-    (tie.spec
-    array-read-run-inside
-    array-read-run-inside-2
-    array-read-run-inside-3
-    run-inside-requires
-    array-read-run-inside-4
-    array-read-run-inside-5
-    array-read-run-inside-6
-    run-inside-requires-2
-    array-read-run-inside-7
-    array-read-run-inside-8
-    array-read-run-inside-9
-    run-inside-requires-3
-    returns)
+    (tie.spec array-read-run-inside array-read-run-inside-2 array-read-run-inside-3 run-inside-requires array-read-run-inside-4
+    array-read-run-inside-5 array-read-run-inside-6 run-inside-requires-2 array-read-run-inside-7 array-read-run-inside-8 array-read-run-inside-9
+    run-inside-requires-3 returns)

@@ -30,14 +30,4 @@ returns : tie.Need-returns
 returns c = rw (c .before .before .before .wide .ensures .0, c .before .before .wide2 .ensures .0, c .before .wide3 .ensures .0, c .wide4 .ensures .0)
 
 pub room-for-spec : {M : Type 1} → statement M
-room-for-spec =
-    tie.close
-    (tie.spec
-    wide-requires
-    wide-requires-2
-    mul-result
-    wide-requires-3
-    mul-result-2
-    wide-requires-4
-    mul-result-3
-    returns)
+room-for-spec = tie.close (tie.spec wide-requires wide-requires-2 mul-result wide-requires-3 mul-result-2 wide-requires-4 mul-result-3 returns)

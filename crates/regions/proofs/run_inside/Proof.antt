@@ -22,6 +22,4 @@ returns : tie.Need-returns
 returns c = rw (c .extent-at .ensures, c .before .before .before .wide .ensures .0, c .before .before .wide2 .ensures .0, c .before .wide3 .ensures .0)
 
 pub run-inside-spec : {M : Type 1} → statement M
-run-inside-spec =
-    tie.close
-    (tie.spec wide-requires wide-requires-2 add-result wide-requires-3 extent-at-requires returns)
+run-inside-spec = tie.close (tie.spec wide-requires wide-requires-2 add-result wide-requires-3 extent-at-requires returns)

@@ -4,8 +4,7 @@ use native.Mathlib.Omega.{arith}
 use mathlib.Core.Path.{_≡_}
 use mathlib.Core.Option.{none}
 use Rattle.endian.specs.Loops.{cat}
-use Rattle.cube.specs.Regions.{find}
-use Rattle.regions.specs.Search.{fails, layerFrom, entriesIn}
+use Rattle.regions.specs.Search.{find, fails, layerFrom, entriesIn}
 use Rattle.regions.proofs.Finds.{find-start, part-hit, part-more, part-none}
 use borrow.Author.Needs.{needs}
 use Rattle.regions.proofs.search.Statement.{statement}
@@ -65,17 +64,5 @@ returns-2 c =
 pub search-spec : {M : Type 1} → statement M
 search-spec =
     tie.close
-    (tie.spec
-    Inv-loop
-    μ-loop
-    loop-holds
-    mul-search-layer
-    add-search-layer
-    search-layer-requires
-    enum-known-found
-    returns
-    enum-told
-    add-z
-    loop-less
-    loop-again
-    returns-2)
+    (tie.spec Inv-loop μ-loop loop-holds mul-search-layer add-search-layer search-layer-requires enum-known-found returns enum-told add-z loop-less
+    loop-again returns-2)

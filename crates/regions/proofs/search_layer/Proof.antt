@@ -5,8 +5,7 @@ use Prim.Native.Nat.{_+_, _-_, _*_, _≤_}
 use native.Mathlib.Omega.{arith}
 use mathlib.Core.Path.{_≡_}
 use mathlib.Core.Option.{none}
-use Rattle.cube.specs.Regions.{find}
-use Rattle.regions.specs.Search.{fails, rowFrom}
+use Rattle.regions.specs.Search.{find, fails, rowFrom}
 use Rattle.endian.specs.Loops.{cat}
 use Rattle.regions.proofs.search_layer.Statement.{statement}
 use Rattle.regions.proofs.search_layer.Tie as tie
@@ -60,17 +59,5 @@ returns-2 c =
 pub search-layer-spec : {M : Type 1} → statement M
 search-layer-spec =
     tie.close
-    (tie.spec
-    Inv-loop
-    μ-loop
-    loop-holds
-    mul-search-row
-    add-search-row
-    search-row-requires
-    enum-known-found
-    returns
-    enum-told
-    add-y
-    loop-less
-    loop-again
-    returns-2)
+    (tie.spec Inv-loop μ-loop loop-holds mul-search-row add-search-row search-row-requires enum-known-found returns enum-told add-y loop-less
+    loop-again returns-2)

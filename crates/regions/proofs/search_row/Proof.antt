@@ -4,8 +4,7 @@ use Prim.Native.Nat.{_-_, _≤_}
 use native.Mathlib.Omega.{arith}
 use mathlib.Core.Path.{_≡_, sym, _∙_}
 use mathlib.Core.Option.{none}
-use Rattle.cube.specs.Regions.{find}
-use Rattle.regions.specs.Search.{fails, rowFrom}
+use Rattle.regions.specs.Search.{find, fails, rowFrom}
 use Rattle.regions.proofs.search_row.Statement.{statement}
 use Rattle.regions.proofs.search_row.Tie as tie
 
@@ -55,16 +54,4 @@ returns-2 c =
 pub search-row-spec : {M : Type 1} → statement M
 search-row-spec =
     tie.close
-    (tie.spec
-    Inv-loop
-    μ-loop
-    loop-holds
-    add-entry-fails
-    entry-fails-requires
-    add-t10
-    cast-t11
-    returns
-    add-x
-    loop-less
-    loop-again
-    returns-2)
+    (tie.spec Inv-loop μ-loop loop-holds add-entry-fails entry-fails-requires add-t10 cast-t11 returns add-x loop-less loop-again returns-2)

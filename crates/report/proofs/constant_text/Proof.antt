@@ -50,17 +50,5 @@ returns-3 c = rw (sym (c .before .before .before .before .before .before .coding
 pub constant-text-spec : {M : Type 1} → statement M
 constant-text-spec =
     tie.close
-    (tie.spec
-    coding-of-requires
-    enum-known-coding
-    push-signed-requires
-    enum-told
-    push-decimal-requires
-    enum-told-2
-    push-decimal-requires-2
-    same-length
-    returns
-    same-length-2
-    returns-2
-    same-length-3
-    returns-3)
+    (tie.spec coding-of-requires enum-known-coding push-signed-requires enum-told push-decimal-requires enum-told-2 push-decimal-requires-2
+    same-length returns same-length-2 returns-2 same-length-3 returns-3)

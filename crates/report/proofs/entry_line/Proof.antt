@@ -33,11 +33,4 @@ returns c =
 pub entry-line-spec : {M : Type 1} → statement M
 entry-line-spec =
     tie.close
-    (tie.spec
-    slice-aggregate-numbered
-    numbered-requires
-    kind-text-requires
-    slice-aggregate-push-bytes
-    push-bytes-requires
-    same-length
-    returns)
+    (tie.spec slice-aggregate-numbered numbered-requires kind-text-requires slice-aggregate-push-bytes push-bytes-requires same-length returns)

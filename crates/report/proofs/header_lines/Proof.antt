@@ -80,24 +80,7 @@ same-length c = pours-length (returns c)
 pub header-lines-spec : {M : Type 1} → statement M
 header-lines-spec =
     tie.close
-    (tie.spec
-    slice-aggregate-number-line
-    cast-number-line
-    number-line-requires
-    slice-aggregate-number-line-2
-    cast-number-line-2
-    number-line-requires-2
-    slice-aggregate-three-line
-    three-line-requires
-    slice-aggregate-three-line-2
-    three-line-requires-2
-    slice-aggregate-number-line-3
-    cast-number-line-3
-    number-line-requires-3
-    slice-aggregate-number-line-4
-    cast-number-line-4
-    number-line-requires-4
-    slice-aggregate-number-line-5
-    number-line-requires-5
-    same-length
-    returns)
+    (tie.spec slice-aggregate-number-line cast-number-line number-line-requires slice-aggregate-number-line-2 cast-number-line-2
+    number-line-requires-2 slice-aggregate-three-line three-line-requires slice-aggregate-three-line-2 three-line-requires-2
+    slice-aggregate-number-line-3 cast-number-line-3 number-line-requires-3 slice-aggregate-number-line-4 cast-number-line-4 number-line-requires-4
+    slice-aggregate-number-line-5 number-line-requires-5 same-length returns)

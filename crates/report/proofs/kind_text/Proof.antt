@@ -59,20 +59,6 @@ returns-3 c = rw (c .before .before .before .before .before .before .kind2 .give
 pub kind-text-spec : {M : Type 1} → statement M
 kind-text-spec =
     tie.close
-    (tie.spec
-    enum-told
-    slice-aggregate-push-bytes
-    push-bytes-requires
-    enum-known-kind
-    slice-aggregate-push-bytes-2
-    push-bytes-requires-2
-    constant-text-requires
-    enum-known-kind-2
-    slice-aggregate-numbered
-    numbered-requires
-    same-length
-    returns
-    same-length-2
-    returns-2
-    same-length-3
+    (tie.spec enum-told slice-aggregate-push-bytes push-bytes-requires enum-known-kind slice-aggregate-push-bytes-2 push-bytes-requires-2
+    constant-text-requires enum-known-kind-2 slice-aggregate-numbered numbered-requires same-length returns same-length-2 returns-2 same-length-3
     returns-3)

@@ -2,7 +2,8 @@
 use mathlib.Core.Path.{_≡_, sym, _∙_}
 use Rattle.record.specs.declared.Verdict.the-variants.{Taken}
 use Rattle.opening.specs.Opening.{openVerdict, recordIn}
-use Rattle.report.proofs.Taken.{taken-bodied, opened-verdict, opened-cube}
+use Rattle.opening.proofs.Rules.{opened-passed, passed-derived}
+use Rattle.report.proofs.Taken.{opened-verdict, opened-cube}
 use Rattle.report.proofs.Lines.{list-long, list-refused, list-taken}
 use borrow.Author.Needs.{needs}
 use Rattle.report.proofs.list.Statement.{statement}
@@ -40,7 +41,7 @@ enum-told : tie.Need-enum-told
 enum-told c = search needs
 
 cube-lines-requires : tie.Need-cube-lines-requires
-cube-lines-requires c κs = rw (is-cube (c .before)) (taken-bodied _ (is-taken (c .before)))
+cube-lines-requires c κs = rw (is-cube (c .before)) (passed-derived _ (opened-passed _ (is-taken (c .before))))
 
 same-length-2 : tie.Need-same-length-2
 same-length-2 c = search needs
@@ -61,17 +62,5 @@ returns-3 c =
 pub list-spec : {M : Type 1} → statement M
 list-spec =
     tie.close
-    (tie.spec
-    slice-aggregate-push-bytes
-    push-bytes-requires
-    same-length
-    returns
-    open-requires
-    enum-known-verdict
-    refused-line-requires
-    enum-told
-    cube-lines-requires
-    same-length-2
-    returns-2
-    same-length-3
-    returns-3)
+    (tie.spec slice-aggregate-push-bytes push-bytes-requires same-length returns open-requires enum-known-verdict refused-line-requires enum-told
+    cube-lines-requires same-length-2 returns-2 same-length-3 returns-3)

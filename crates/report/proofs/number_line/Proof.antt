@@ -20,6 +20,4 @@ returns : tie.Need-returns
 returns c = poured-step (c .before .before .before .before .before .before .before .numbered .ensures) (c .before .before .push-bytes .ensures)
 
 pub number-line-spec : {M : Type 1} → statement M
-number-line-spec =
-    tie.close
-    (tie.spec numbered-requires slice-aggregate-push-bytes push-bytes-requires same-length returns)
+number-line-spec = tie.close (tie.spec numbered-requires slice-aggregate-push-bytes push-bytes-requires same-length returns)

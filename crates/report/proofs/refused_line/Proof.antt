@@ -31,12 +31,5 @@ returns c = poured-step (c .before .before .before .before .before .before .befo
 pub refused-line-spec : {M : Type 1} → statement M
 refused-line-spec =
     tie.close
-    (tie.spec
-    slice-aggregate-numbered
-    cast-numbered
-    numbered-requires
-    slice-aggregate-number-line
-    cast-number-line
-    number-line-requires
-    same-length
+    (tie.spec slice-aggregate-numbered cast-numbered numbered-requires slice-aggregate-number-line cast-number-line number-line-requires same-length
     returns)

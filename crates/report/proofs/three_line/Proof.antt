@@ -50,17 +50,5 @@ returns c =
 pub three-line-spec : {M : Type 1} → statement M
 three-line-spec =
     tie.close
-    (tie.spec
-    array-read-numbered
-    cast-numbered
-    numbered-requires
-    slice-aggregate-numbered
-    array-read-numbered-2
-    cast-numbered-2
-    numbered-requires-2
-    slice-aggregate-number-line
-    array-read-number-line
-    cast-number-line
-    number-line-requires
-    same-length
-    returns)
+    (tie.spec array-read-numbered cast-numbered numbered-requires slice-aggregate-numbered array-read-numbered-2 cast-numbered-2 numbered-requires-2
+    slice-aggregate-number-line array-read-number-line cast-number-line number-line-requires same-length returns)

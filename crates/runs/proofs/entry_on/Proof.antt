@@ -39,14 +39,4 @@ returns c =
     ∙ rw (o .over3 .ensures, o .before .before .over2 .ensures, o .before .before .before .before .over .ensures) (entry-made (s .args .r) (s .args .g) (s .args .q) (s .args .i) (s .args .j) (s .args .k) (s .pre))
 
 pub entry-on-spec : {M : Type 1} → statement M
-entry-on-spec =
-    tie.close
-    (tie.spec
-    add-over
-    over-requires
-    add-over-2
-    over-requires-2
-    add-over-3
-    over-requires-3
-    entry-at-requires
-    returns)
+entry-on-spec = tie.close (tie.spec add-over over-requires add-over-2 over-requires-2 add-over-3 over-requires-3 entry-at-requires returns)

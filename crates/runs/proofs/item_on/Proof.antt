@@ -45,15 +45,5 @@ returns c =
 pub item-on-spec : {M : Type 1} → statement M
 item-on-spec =
     tie.close
-    (tie.spec
-    add-beyond
-    beyond-requires
-    add-beyond-2
-    beyond-requires-2
-    add-beyond-3
-    beyond-requires-3
-    mul-result
-    add-result
-    mul-result-2
-    add-result-2
+    (tie.spec add-beyond beyond-requires add-beyond-2 beyond-requires-2 add-beyond-3 beyond-requires-3 mul-result add-result mul-result-2 add-result-2
     returns)

@@ -1,6 +1,6 @@
 -- `runs::kind_on` meets its contract. Assumes nothing.
 use mathlib.Core.Path.{_∙_}
-use Rattle.runs.proofs.Lattices.{entry-in, width-ok, kind-made}
+use Rattle.runs.proofs.Lattices.{entry-in, kind-made}
 use Rattle.runs.proofs.kind_on.Statement.{statement}
 use Rattle.runs.proofs.kind_on.Tie as tie
 
@@ -11,7 +11,7 @@ kind-at-requires : tie.Need-kind-at-requires
 kind-at-requires c κs =
     let s = c .before .before in
     let a = s .args in
-    (entry-in (a .r) (a .g) (a .q) (a .i) (a .j) (a .k) (s .pre .0) _ _ (s .pre .1) (c .entry-on .ensures), width-ok (a .r) (a .g) (a .q) (a .i) (a .j) (a .k) (s .pre .0))
+    entry-in (a .r) (a .g) (a .q) (a .i) (a .j) (a .k) (s .pre .0) _ _ (s .pre .1) (c .entry-on .ensures)
 
 returns : tie.Need-returns
 returns c =

@@ -82,23 +82,5 @@ returns c = turns-all (c .before .loop .inv) (c .loop-test .left)
 pub gather-spec : {M : Type 1} → statement M
 gather-spec =
     tie.close
-    (tie.spec
-    Inv-loop
-    μ-loop
-    loop-holds
-    add-e
-    mul-p
-    add-p
-    add-pe
-    sub-copy
-    part-copy-start
-    part-copy-end
-    sub-copy-2
-    part-copy-start-2
-    part-copy-end-2
-    copy-requires
-    add-t
-    loop-less
-    loop-again
-    same-length
-    returns)
+    (tie.spec Inv-loop μ-loop loop-holds add-e mul-p add-p add-pe sub-copy part-copy-start part-copy-end sub-copy-2 part-copy-start-2 part-copy-end-2
+    copy-requires add-t loop-less loop-again same-length returns)

@@ -56,13 +56,4 @@ returns-3 c = let m = c .before .before .before .before in c .before .before .ga
 pub gather-items-spec : {M : Type 1} → statement M
 gather-items-spec =
     tie.close
-    (tie.spec
-    gather-requires
-    gather-requires-2
-    gather-requires-3
-    same-length
-    returns
-    same-length-2
-    returns-2
-    same-length-3
-    returns-3)
+    (tie.spec gather-requires gather-requires-2 gather-requires-3 same-length returns same-length-2 returns-2 same-length-3 returns-3)

@@ -46,12 +46,4 @@ returns-2 c = search needs
 pub read-box-spec : {M : Type 1} → statement M
 read-box-spec =
     tie.close
-    (tie.spec
-    kind-on-requires
-    item-on-requires
-    read-strips-requires
-    read-inlines-requires
-    same-length
-    returns
-    same-length-2
-    returns-2)
+    (tie.spec kind-on-requires item-on-requires read-strips-requires read-inlines-requires same-length returns same-length-2 returns-2)

@@ -72,15 +72,4 @@ returns c =
 pub read-boxes-spec : {M : Type 1} → statement M
 read-boxes-spec =
     tie.close
-    (tie.spec
-    Inv-loop
-    μ-loop
-    loop-holds
-    sub-left
-    left-requires
-    read-box-requires
-    add-k
-    loop-less
-    loop-again
-    same-length
-    returns)
+    (tie.spec Inv-loop μ-loop loop-holds sub-left left-requires read-box-requires add-k loop-less loop-again same-length returns)

@@ -1,9 +1,12 @@
 -- `sampling::read_bricks` meets its contract. Assumes nothing.
 use Prim.Native.Nat.{ℕ, _-_, _≤_}
 use mathlib.Core.Path.{_≡_, refl, sym, subst, _∙_}
+use mathlib.Core.List.{[], _∷_}
 use native.Mathlib.Omega.{arith}
 use native.Mathlib.Nat.{zero-add, mul-one}
+use Rattle.cube.specs.Places.{rowsOf, floatOf}
 use Rattle.cube.specs.Regions.{runOf, sizeOf, floatRows}
+use Rattle.cube.proofs.Rows.{by-place}
 use Rattle.runs.specs.Boxes.{Along}
 use Rattle.runs.proofs.Steps.{counts}
 use Rattle.runs.proofs.Boxes.{boxed-none0, boxed-more0, boxed-all}
@@ -68,20 +71,9 @@ returns c =
     let a = s .args in
     let e : c .before .loop .i ≡ runOf (a .g) 0 = omega (arith, c .before .loop .inv .1, count s) in
     let box = subst (λ (x : ℕ). FloatBox (a .r) (a .file .now) (a .g) 0 x 0 (runOf (a .g) 1) 0 (runOf (a .g) 2) (a .out .now) (c .before .loop .out)) e (c .before .loop .inv .0) in
-    boxed-all (s .pre .0 .2 ∙ sym (mul-one (sizeOf (a .g)))) box
+    boxed-all (s .pre .0 .2 ∙ sym (mul-one (sizeOf (a .g)))) box ∙ by-place (a .g) (λ p. floatOf (a .r) (rowsOf (a .r) (a .file .now) p) ∷ [])
 
 pub read-bricks-spec : {M : Type 1} → statement M
 read-bricks-spec =
     tie.close
-    (tie.spec
-    Inv-loop
-    μ-loop
-    loop-holds
-    sub-left
-    left-requires
-    read-columns-requires
-    add-i
-    loop-less
-    loop-again
-    same-length
-    returns)
+    (tie.spec Inv-loop μ-loop loop-holds sub-left left-requires read-columns-requires add-i loop-less loop-again same-length returns)

@@ -59,4 +59,7 @@ returns : tie.Need-returns Inv-loop μ-loop
 returns c = let e : c .before .loop .t ≡ start (c .before) .args .ni = omega arith in rw e at (c .before .loop .inv .0)
 
 pub read-column-spec : {M : Type 1} → statement M
-read-column-spec = tie.close (tie.spec Inv-loop μ-loop loop-holds sub-at-once at-once-requires add-read-boxes read-boxes-requires add-t loop-less loop-again same-length returns)
+read-column-spec =
+    tie.close
+    (tie.spec Inv-loop μ-loop loop-holds sub-at-once at-once-requires add-read-boxes read-boxes-requires add-t loop-less loop-again same-length
+    returns)

@@ -69,17 +69,4 @@ returns c =
 pub read-inlines-spec : {M : Type 1} → statement M
 read-inlines-spec =
     tie.close
-    (tie.spec
-    Inv-loop
-    μ-loop
-    mul-plane
-    loop-holds
-    mul-m
-    add-m
-    add-read-rows
-    read-rows-requires
-    add-t
-    loop-less
-    loop-again
-    same-length
-    returns)
+    (tie.spec Inv-loop μ-loop mul-plane loop-holds mul-m add-m add-read-rows read-rows-requires add-t loop-less loop-again same-length returns)

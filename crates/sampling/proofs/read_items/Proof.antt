@@ -20,8 +20,8 @@ ends c =
 enum-told : tie.Need-enum-told
 enum-told c = search needs
 
-fill-floats-requires : tie.Need-fill-floats-requires
-fill-floats-requires c κs = search needs
+missing-floats-requires : tie.Need-missing-floats-requires
+missing-floats-requires c κs = search needs
 
 enum-known-kind : tie.Need-enum-known-kind
 enum-known-kind c = search needs
@@ -29,8 +29,8 @@ enum-known-kind c = search needs
 decode-one-requires : tie.Need-decode-one-requires
 decode-one-requires c κs = c .before .before .before .before .before .before .pre .1 .0 _ (c .before .kind .given .1)
 
-fill-floats-requires-2 : tie.Need-fill-floats-requires-2
-fill-floats-requires-2 c κs = search needs
+fill-floats-requires : tie.Need-fill-floats-requires
+fill-floats-requires c κs = search needs
 
 enum-known-kind-2 : tie.Need-enum-known-kind-2
 enum-known-kind-2 c = search needs
@@ -72,7 +72,7 @@ returns : tie.Need-returns
 returns c =
     let m = c .before .before .before .before in
     let a = m .before .before .before .before .before .args in
-    items-missing (a .r) (a .file .now) (a .kind) (a .item) (length (a .out .now)) _ (m .enum-told .given .1) (c .before .before .fill-floats .ensures)
+    items-missing (a .r) (a .file .now) (a .kind) (a .item) (length (a .out .now)) _ _ (m .before .before .before .before .before .pre .0 .0 .missing) (m .enum-told .given .1) (c .before .before .missing-floats .ensures)
 
 same-length-2 : tie.Need-same-length-2
 same-length-2 c = search needs
@@ -95,7 +95,7 @@ returns-2 c =
     _
     (m .kind .given .1)
     (c .before .before .before .before .decode-one .ensures)
-    (c .before .before .fill-floats2 .ensures)
+    (c .before .before .fill-floats .ensures)
 
 same-length-3 : tie.Need-same-length-3
 same-length-3 c = search needs
@@ -125,25 +125,5 @@ returns-3 c =
 pub read-items-spec : {M : Type 1} → statement M
 read-items-spec =
     tie.close
-    (tie.spec
-    enum-told
-    fill-floats-requires
-    enum-known-kind
-    decode-one-requires
-    fill-floats-requires-2
-    enum-known-kind-2
-    cast-w
-    mul-a
-    add-a
-    mul-e
-    add-e
-    sub-decode
-    part-decode-start
-    part-decode-end
-    decode-requires
-    same-length
-    returns
-    same-length-2
-    returns-2
-    same-length-3
-    returns-3)
+    (tie.spec enum-told missing-floats-requires enum-known-kind decode-one-requires fill-floats-requires enum-known-kind-2 cast-w mul-a add-a mul-e
+    add-e sub-decode part-decode-start part-decode-end decode-requires same-length returns same-length-2 returns-2 same-length-3 returns-3)

@@ -123,25 +123,5 @@ returns c =
 pub read-rows-spec : {M : Type 1} → statement M
 read-rows-spec =
     tie.close
-    (tie.spec
-    Inv-loop
-    μ-loop
-    loop-holds
-    mul-a
-    add-a
-    add-a-2
-    mul-a-2
-    add-a-3
-    add-e
-    mul-read-items
-    sub-read-items
-    part-read-items-start
-    part-read-items-end
-    mul-read-items-2
-    add-read-items
-    read-items-requires
-    add-t
-    loop-less
-    loop-again
-    same-length
-    returns)
+    (tie.spec Inv-loop μ-loop loop-holds mul-a add-a add-a-2 mul-a-2 add-a-3 add-e mul-read-items sub-read-items part-read-items-start
+    part-read-items-end mul-read-items-2 add-read-items read-items-requires add-t loop-less loop-again same-length returns)

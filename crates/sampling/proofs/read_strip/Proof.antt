@@ -36,8 +36,8 @@ ends c t l =
 enum-told : tie.Need-enum-told
 enum-told c = search needs
 
-fill-floats-requires : tie.Need-fill-floats-requires
-fill-floats-requires c κs = search needs
+missing-floats-requires : tie.Need-missing-floats-requires
+missing-floats-requires c κs = search needs
 
 enum-known-kind : tie.Need-enum-known-kind
 enum-known-kind c = search needs
@@ -45,8 +45,8 @@ enum-known-kind c = search needs
 decode-one-requires : tie.Need-decode-one-requires
 decode-one-requires c κs = c .before .before .before .before .before .before .pre .1 .1 .0 _ (c .before .kind .given .1)
 
-fill-floats-requires-2 : tie.Need-fill-floats-requires-2
-fill-floats-requires-2 c κs = search needs
+fill-floats-requires : tie.Need-fill-floats-requires
+fill-floats-requires c κs = search needs
 
 enum-known-kind-2 : tie.Need-enum-known-kind-2
 enum-known-kind-2 c = search needs
@@ -103,7 +103,7 @@ returns : tie.Need-returns
 returns c =
     let m = c .before .before .before .before in
     let a = m .before .before .before .before .before .args in
-    strip-missing (a .r) (a .file .now) (a .kind) (a .item) (a .q .side2) (length (a .strip .now)) _ (m .enum-told .given .1) (c .before .before .fill-floats .ensures)
+    strip-missing (a .r) (a .file .now) (a .kind) (a .item) (a .q .side2) (length (a .strip .now)) _ _ (m .before .before .before .before .before .pre .0 .0 .missing) (m .enum-told .given .1) (c .before .before .missing-floats .ensures)
 
 same-length-2 : tie.Need-same-length-2
 same-length-2 c = search needs
@@ -127,7 +127,7 @@ returns-2 c =
     _
     (m .kind .given .1)
     (c .before .before .before .before .decode-one .ensures)
-    (c .before .before .fill-floats2 .ensures)
+    (c .before .before .fill-floats .ensures)
 
 same-length-3 : tie.Need-same-length-3
 same-length-3 c = search needs
@@ -160,27 +160,6 @@ returns-3 c =
 pub read-strip-spec : {M : Type 1} → statement M
 read-strip-spec =
     tie.close
-    (tie.spec
-    enum-told
-    fill-floats-requires
-    enum-known-kind
-    decode-one-requires
-    fill-floats-requires-2
-    enum-known-kind-2
-    cast-w
-    mul-e
-    mul-a
-    add-a
-    array-borrow-prefix-block
-    slice-aggregate-gather-items
-    mul-gather-items
-    gather-items-requires
-    array-share-prefix-block
-    slice-aggregate-decode
-    decode-requires
-    same-length
-    returns
-    same-length-2
-    returns-2
-    same-length-3
-    returns-3)
+    (tie.spec enum-told missing-floats-requires enum-known-kind decode-one-requires fill-floats-requires enum-known-kind-2 cast-w mul-e mul-a add-a
+    array-borrow-prefix-block slice-aggregate-gather-items mul-gather-items gather-items-requires array-share-prefix-block slice-aggregate-decode
+    decode-requires same-length returns same-length-2 returns-2 same-length-3 returns-3)

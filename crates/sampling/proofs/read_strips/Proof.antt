@@ -126,24 +126,5 @@ returns c =
 pub read-strips-spec : {M : Type 1} → statement M
 read-strips-spec =
     tie.close
-    (tie.spec
-    Inv-loop
-    μ-loop
-    mul-plane
-    loop-holds
-    add-a
-    mul-a
-    add-a-2
-    add-e
-    mul-read-strip
-    sub-read-strip
-    part-read-strip-start
-    part-read-strip-end
-    mul-read-strip-2
-    add-read-strip
-    read-strip-requires
-    add-t
-    loop-less
-    loop-again
-    same-length
-    returns)
+    (tie.spec Inv-loop μ-loop mul-plane loop-holds add-a mul-a add-a-2 add-e mul-read-strip sub-read-strip part-read-strip-start part-read-strip-end
+    mul-read-strip-2 add-read-strip read-strip-requires add-t loop-less loop-again same-length returns)

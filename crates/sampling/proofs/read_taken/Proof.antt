@@ -83,13 +83,5 @@ returns c =
 pub read-taken-spec : {M : Type 1} → statement M
 read-taken-spec =
     tie.close
-    (tie.spec
-    lattice-of-requires
-    mul-n
-    mul-n-2
-    slice-relend-prefix-read-bricks
-    slice-aggregate-read-bricks
-    range-of-requires
-    read-bricks-requires
-    same-length
-    returns)
+    (tie.spec lattice-of-requires mul-n mul-n-2 slice-relend-prefix-read-bricks slice-aggregate-read-bricks range-of-requires read-bricks-requires
+    same-length returns)

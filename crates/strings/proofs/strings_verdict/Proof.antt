@@ -3,9 +3,10 @@ use mathlib.Core.Path.{sym, ap, _∙_}
 use native.Mathlib.Omega.{arith}
 use lib.ListN.{length-take, length-drop}
 use borrow.Author.Needs.{needs}
+use Rattle.record.proofs.Laws.{text-part}
 use Rattle.checks.specs.Checks.{breaks11}
 use Rattle.strings.specs.Strings.{stringsVerdict}
-use Rattle.strings.proofs.Verdicts.{text-inside, text-part}
+use Rattle.strings.proofs.Verdicts.{text-inside}
 use Rattle.strings.proofs.strings_verdict.Statement.{statement}
 use Rattle.strings.proofs.strings_verdict.Tie as tie
 
@@ -63,16 +64,5 @@ returns-2 c =
 pub strings-verdict-spec : {M : Type 1} → statement M
 strings-verdict-spec =
     tie.close
-    (tie.spec
-    check14-with-requires
-    refuse-requires
-    returns
-    cast-text
-    add-end
-    sub-check11
-    part-check11-start
-    part-check11-end
-    check11-requires
-    refuse-requires-2
-    returns-2
-    returns-3)
+    (tie.spec check14-with-requires refuse-requires returns cast-text add-end sub-check11 part-check11-start part-check11-end check11-requires
+    refuse-requires-2 returns-2 returns-3)

@@ -86,23 +86,5 @@ returns c = turns-all (c .before .loop .inv) (c .loop-test .left)
 pub move-runs-spec : {M : Type 1} → statement M
 move-runs-spec =
     tie.close
-    (tie.spec
-    Inv-loop
-    μ-loop
-    loop-holds
-    add-e
-    source-run-requires
-    mul-p
-    add-q
-    sub-copy
-    part-copy-start
-    part-copy-end
-    sub-copy-2
-    part-copy-start-2
-    part-copy-end-2
-    copy-requires
-    add-r
-    loop-less
-    loop-again
-    same-length
-    returns)
+    (tie.spec Inv-loop μ-loop loop-holds add-e source-run-requires mul-p add-q sub-copy part-copy-start part-copy-end sub-copy-2 part-copy-start-2
+    part-copy-end-2 copy-requires add-r loop-less loop-again same-length returns)

@@ -96,23 +96,6 @@ returns-3 c =
 pub permute-spec : {M : Type 1} → statement M
 permute-spec =
     tie.close
-    (tie.spec
-    breaks-20-requires
-    refuse-requires
-    returns
-    array-read-n0
-    cast-n0
-    array-read-n1
-    cast-n1
-    array-read-n2
-    cast-n2
-    brick-bytes-requires
-    refuse-requires-2
-    returns-2
-    slice-relend-prefix-move-runs
-    slice-aggregate-move-runs
-    mul-move-runs
-    mul-move-runs-2
-    move-runs-requires
-    same-length
+    (tie.spec breaks-20-requires refuse-requires returns array-read-n0 cast-n0 array-read-n1 cast-n1 array-read-n2 cast-n2 brick-bytes-requires
+    refuse-requires-2 returns-2 slice-relend-prefix-move-runs slice-aggregate-move-runs mul-move-runs mul-move-runs-2 move-runs-requires same-length
     returns-3)

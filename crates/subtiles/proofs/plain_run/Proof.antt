@@ -1,8 +1,9 @@
 -- `subtiles::plain_run` meets its contract. Assumes nothing.
-use Prim.Native.Nat.{_/_, _%_, _≤_}
+use Prim.Native.Nat.{_*_, _/_, _%_, _≤_}
 use mathlib.Core.Path.{refl}
 use native.Mathlib.Nat.{div-le-self, mod-le}
 use native.Mathlib.Omega.{arith}
+use Rattle.geometry.specs.Limits.{sideRoom}
 use Rattle.subtiles.specs.Runs.{plainRun}
 use Rattle.subtiles.proofs.Numbers.{product-small, pair-small, small-fits}
 use borrow.Author.Needs.{needs}
@@ -10,7 +11,7 @@ use Rattle.subtiles.proofs.plain_run.Statement.{statement}
 use Rattle.subtiles.proofs.plain_run.Tie as tie
 
 -- the subtile's row and column
-tile : (c : tie.Start) → (c .args .r / 64 / (c .args .n1 / 8) ≤ 64) × (c .args .r / 64 % (c .args .n1 / 8) ≤ 64)
+tile : (c : tie.Start) → (c .args .r / 64 / (c .args .n1 / 8) ≤ sideRoom * sideRoom / 64) × (c .args .r / 64 % (c .args .n1 / 8) ≤ sideRoom * sideRoom / 64)
 tile c = omega (arith, div-le-self (c .args .r / 64) (c .args .n1 / 8), mod-le (c .args .r / 64) (c .args .n1 / 8))
 
 div-i : tie.Need-div-i
@@ -42,5 +43,4 @@ unfolding plainRun
 returns c = refl
 
 pub plain-run-spec : {M : Type 1} → statement M
-plain-run-spec =
-    tie.close (tie.spec div-i mul-i add-i rem-j mul-j add-j mul-result add-result returns)
+plain-run-spec = tie.close (tie.spec div-i mul-i add-i rem-j mul-j add-j mul-result add-result returns)

@@ -1,8 +1,9 @@
 -- `subtiles::tiled_run` meets its contract. Assumes nothing.
-use Prim.Native.Nat.{_/_, _%_, _≤_}
+use Prim.Native.Nat.{_*_, _/_, _%_, _≤_}
 use mathlib.Core.Path.{refl}
 use native.Mathlib.Nat.{div-le-self, mod-le}
 use native.Mathlib.Omega.{arith}
+use Rattle.geometry.specs.Limits.{sideRoom}
 use Rattle.subtiles.specs.Runs.{tiledRun}
 use Rattle.subtiles.proofs.Numbers.{product-small, pair-small, small-fits, tiles-fit, runs-fit}
 use borrow.Author.Needs.{needs}
@@ -10,7 +11,7 @@ use Rattle.subtiles.proofs.tiled_run.Statement.{statement}
 use Rattle.subtiles.proofs.tiled_run.Tie as tie
 
 -- row and column of the run
-column : (c : tie.Start) → (c .args .r / c .args .n1 ≤ 4096) × (c .args .r % c .args .n1 ≤ 4096)
+column : (c : tie.Start) → (c .args .r / c .args .n1 ≤ sideRoom * sideRoom) × (c .args .r % c .args .n1 ≤ sideRoom * sideRoom)
 column c = omega (arith, div-le-self (c .args .r) (c .args .n1), mod-le (c .args .r) (c .args .n1))
 
 div-i : tie.Need-div-i
@@ -42,6 +43,4 @@ unfolding tiledRun
 returns c = refl
 
 pub tiled-run-spec : {M : Type 1} → statement M
-tiled-run-spec =
-    tie.close
-    (tie.spec div-i rem-j mul-tile add-tile mul-inside add-inside mul-result add-result returns)
+tiled-run-spec = tie.close (tie.spec div-i rem-j mul-tile add-tile mul-inside add-inside mul-result add-result returns)

@@ -27,5 +27,4 @@ returns-3 c =
     rw e
 
 pub low-bytes-spec : {M : Type 1} → statement M
-low-bytes-spec =
-    tie.close (tie.spec cast-result cast-result-2 cast-result-3 returns returns-2 returns-3)
+low-bytes-spec = tie.close (tie.spec cast-result cast-result-2 cast-result-3 returns returns-2 returns-3)

@@ -49,18 +49,5 @@ returns-3 c = untouched _ _ _ _ _ (c .before .before .before .before .before .be
 pub touches-spec : {M : Type 1} → statement M
 touches-spec =
     tie.close
-    (tie.spec
-    mul-near
-    element-copy-out-near
-    near-requires
-    returns
-    add-near
-    mul-near-2
-    element-copy-out-near-2
-    near-requires-2
-    returns-2
-    add-near-2
-    mul-near-3
-    element-copy-out-near-3
-    near-requires-3
-    returns-3)
+    (tie.spec mul-near element-copy-out-near near-requires returns add-near mul-near-2 element-copy-out-near-2 near-requires-2 returns-2 add-near-2
+    mul-near-3 element-copy-out-near-3 near-requires-3 returns-3)

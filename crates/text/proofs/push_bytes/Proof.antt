@@ -50,15 +50,4 @@ returns c =
 pub push-bytes-spec : {M : Type 1} → statement M
 push-bytes-spec =
     tie.close
-    (tie.spec
-    Inv-loop
-    μ-loop
-    within-requires
-    loop-holds
-    shared-slice-read-push
-    push-requires
-    add-i
-    loop-less
-    loop-again
-    same-length
-    returns)
+    (tie.spec Inv-loop μ-loop within-requires loop-holds shared-slice-read-push push-requires add-i loop-less loop-again same-length returns)

@@ -47,17 +47,5 @@ returns c = tt
 pub main-spec : {M : Type 1} → statement M
 main-spec =
     tie.close
-    (tie.spec
-    Inv-loop
-    μ-loop
-    arg-count-requires
-    loop-holds
-    mul-run-pair
-    add-run-pair
-    mul-run-pair-2
-    add-run-pair-2
-    run-pair-requires
-    add-i
-    loop-less
-    loop-again
-    returns)
+    (tie.spec Inv-loop μ-loop arg-count-requires loop-holds mul-run-pair add-run-pair mul-run-pair-2 add-run-pair-2 run-pair-requires add-i loop-less
+    loop-again returns)

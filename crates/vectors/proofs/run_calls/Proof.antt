@@ -43,15 +43,4 @@ returns c = tt
 pub run-calls-spec : {M : Type 1} → statement M
 run-calls-spec =
     tie.close
-    (tie.spec
-    Inv-loop
-    μ-loop
-    loop-holds
-    mul-call-at
-    call-at-requires
-    step-requires
-    add-i
-    loop-less
-    loop-again
-    same-length
-    returns)
+    (tie.spec Inv-loop μ-loop loop-holds mul-call-at call-at-requires step-requires add-i loop-less loop-again same-length returns)

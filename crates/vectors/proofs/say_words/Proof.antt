@@ -36,16 +36,4 @@ returns : tie.Need-returns Inv-loop μ-loop
 returns c = tt
 
 pub say-words-spec : {M : Type 1} → statement M
-say-words-spec =
-    tie.close
-    (tie.spec
-    Inv-loop
-    μ-loop
-    loop-holds
-    mul-say-word
-    array-read-say-word
-    say-word-requires
-    add-i
-    loop-less
-    loop-again
-    returns)
+say-words-spec = tie.close (tie.spec Inv-loop μ-loop loop-holds mul-say-word array-read-say-word say-word-requires add-i loop-less loop-again returns)

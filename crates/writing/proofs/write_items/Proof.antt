@@ -53,18 +53,5 @@ returns c =
 pub write-items-spec : {M : Type 1} → statement M
 write-items-spec =
     tie.close
-    (tie.spec
-    mul-c
-    mul-p
-    add-p
-    add-e
-    add-b
-    sub-copy
-    part-copy-start
-    part-copy-end
-    sub-copy-2
-    part-copy-start-2
-    part-copy-end-2
-    copy-requires
-    same-length
-    returns)
+    (tie.spec mul-c mul-p add-p add-e add-b sub-copy part-copy-start part-copy-end sub-copy-2 part-copy-start-2 part-copy-end-2 copy-requires
+    same-length returns)

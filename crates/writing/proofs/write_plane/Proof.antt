@@ -75,16 +75,4 @@ returns : tie.Need-returns Inv-loop μ-loop
 returns c = writes-all (start (c .before) .args .r) (c .before .loop .inv .0) (omega (arith, count (c .before), c .loop-test .left))
 
 pub write-plane-spec : {M : Type 1} → statement M
-write-plane-spec =
-    tie.close
-    (tie.spec
-    Inv-loop
-    μ-loop
-    loop-holds
-    write-run-requires
-    add-a
-    add-j
-    loop-less
-    loop-again
-    same-length
-    returns)
+write-plane-spec = tie.close (tie.spec Inv-loop μ-loop loop-holds write-run-requires add-a add-j loop-less loop-again same-length returns)

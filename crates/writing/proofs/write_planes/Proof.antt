@@ -5,10 +5,10 @@ use native.Mathlib.Omega.{arith}
 use native.Mathlib.Nat.{le-refl, zero-mul}
 use Rattle.endian.specs.Loops.{tri}
 use Rattle.cube.specs.Places.{itemBytes}
-use Rattle.cube.specs.Regions.{runOf, written}
+use Rattle.cube.specs.Regions.{runOf}
 use Rattle.runs.proofs.Steps.{counts}
 use Rattle.writing.specs.Writes.{planeTo, Writable}
-use Rattle.writing.proofs.Keeps.{plane-kept, writable-kept}
+use Rattle.writing.proofs.Keeps.{plane-kept, writable-kept, all-planes}
 use Rattle.writing.proofs.Turns.{plane-room, Writes, writes-none, writes-more, writes-all}
 use Rattle.writing.proofs.write_planes.Statement.{statement}
 use Rattle.writing.proofs.write_planes.Tie as tie
@@ -76,20 +76,9 @@ same-length : tie.Need-same-length Inv-loop μ-loop
 same-length c = omega arith
 
 returns : tie.Need-returns Inv-loop μ-loop
-unfolding written
-returns c = writes-all (start (c .before) .args .r) (c .before .loop .inv .0) (omega (arith, count (c .before), c .loop-test .left))
+returns c =
+    let a = start (c .before) .args in
+    writes-all (a .r) (c .before .loop .inv .0) (omega (arith, count (c .before), c .loop-test .left)) ∙ all-planes (a .r) (a .g) (a .input .now) (a .file .now)
 
 pub write-planes-spec : {M : Type 1} → statement M
-write-planes-spec =
-    tie.close
-    (tie.spec
-    Inv-loop
-    μ-loop
-    loop-holds
-    write-plane-requires
-    add-a
-    add-i
-    loop-less
-    loop-again
-    same-length
-    returns)
+write-planes-spec = tie.close (tie.spec Inv-loop μ-loop loop-holds write-plane-requires add-a add-i loop-less loop-again same-length returns)

@@ -31,13 +31,13 @@ index-requires : tie.Need-index-requires
 index-requires c κs = search needs
 
 mul-run : tie.Need-mul-run
-mul-run c = omega (arith, products (c .before))
+mul-run c = omega (arith, products (c .before), start (c .before))
 
 mul-plane : tie.Need-mul-plane
-mul-plane c = omega (arith, products (c .before .before))
+mul-plane c = omega (arith, products (c .before .before), start (c .before .before))
 
 mul-n : tie.Need-mul-n
-mul-n c = omega (arith, products (c .before .before .before))
+mul-n c = omega (arith, products (c .before .before .before), start (c .before .before .before))
 
 write-planes-requires : tie.Need-write-planes-requires
 write-planes-requires c κs =
@@ -53,14 +53,4 @@ returns : tie.Need-returns
 returns c = (products (c .before .before .before .before .before .before .before) .size, c .before .before .write-planes .ensures)
 
 pub write-region-spec : {M : Type 1} → statement M
-write-region-spec =
-    tie.close
-    (tie.spec
-    lattice-of-requires
-    index-requires
-    mul-run
-    mul-plane
-    mul-n
-    write-planes-requires
-    same-length
-    returns)
+write-region-spec = tie.close (tie.spec lattice-of-requires index-requires mul-run mul-plane mul-n write-planes-requires same-length returns)

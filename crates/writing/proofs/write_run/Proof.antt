@@ -140,20 +140,5 @@ returns c =
 pub write-run-spec : {M : Type 1} → statement M
 write-run-spec =
     tie.close
-    (tie.spec
-    Inv-loop
-    μ-loop
-    index-requires
-    loop-holds
-    offset-on-requires
-    item-on-requires
-    sub-span
-    span-requires
-    write-items-requires
-    mul-a
-    add-a
-    add-k
-    loop-less
-    loop-again
-    same-length
-    returns)
+    (tie.spec Inv-loop μ-loop index-requires loop-holds offset-on-requires item-on-requires sub-span span-requires write-items-requires mul-a add-a
+    add-k loop-less loop-again same-length returns)

@@ -21,5 +21,4 @@ returns-2 : tie.Need-returns-2
 returns-2 c = ap kindC (sym (c .before .answer2 .given .1))
 
 pub found-spec : {M : Type 1} → statement M
-found-spec =
-    tie.close (tie.spec enum-known-answer known-requires enum-known-answer-2 returns returns-2)
+found-spec = tie.close (tie.spec enum-known-answer known-requires enum-known-answer-2 returns returns-2)

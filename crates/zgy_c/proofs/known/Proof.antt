@@ -24,5 +24,4 @@ returns-3 : tie.Need-returns-3
 returns-3 c = ap brickC (sym (c .before .brick2 .given .1))
 
 pub known-spec : {M : Type 1} → statement M
-known-spec =
-    tie.close (tie.spec enum-told enum-known-brick enum-known-brick-2 returns returns-2 returns-3)
+known-spec = tie.close (tie.spec enum-told enum-known-brick enum-known-brick-2 returns returns-2 returns-3)

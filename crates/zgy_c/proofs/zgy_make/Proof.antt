@@ -23,5 +23,4 @@ returns c =
     (made-is _ _ _ _ fill _ _ _ (c .done .ensures) (call .ensures .0), buffer-is _ _ _ _ fill _ _ (call .ensures .1))
 
 pub zgy-make-spec : {M : Type 1} → statement M
-zgy-make-spec =
-    tie.close (tie.spec fill-of-requires make-requires done-requires same-length returns)
+zgy-make-spec = tie.close (tie.spec fill-of-requires make-requires done-requires same-length returns)

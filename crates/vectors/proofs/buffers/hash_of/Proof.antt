@@ -34,15 +34,4 @@ returns : tie.Need-returns Inv-loop μ-loop
 returns c = tt
 
 pub hash-of-spec : {M : Type 1} → statement M
-hash-of-spec =
-    tie.close
-    (tie.spec
-    Inv-loop
-    μ-loop
-    loop-holds
-    shared-slice-read-hashed
-    hashed-requires
-    add-i
-    loop-less
-    loop-again
-    returns)
+hash-of-spec = tie.close (tie.spec Inv-loop μ-loop loop-holds shared-slice-read-hashed hashed-requires add-i loop-less loop-again returns)

@@ -42,15 +42,5 @@ returns c = tt
 pub hash-of-floats-spec : {M : Type 1} → statement M
 hash-of-floats-spec =
     tie.close
-    (tie.spec
-    Inv-loop
-    μ-loop
-    loop-holds
-    mul-bits-of
-    shared-slice-read-bits-of
-    bits-of-requires
-    hashed-number-requires
-    add-i
-    loop-less
-    loop-again
+    (tie.spec Inv-loop μ-loop loop-holds mul-bits-of shared-slice-read-bits-of bits-of-requires hashed-number-requires add-i loop-less loop-again
     returns)

@@ -43,15 +43,4 @@ returns c = tt
 pub pseudo-random-spec : {M : Type 1} → statement M
 pseudo-random-spec =
     tie.close
-    (tie.spec
-    Inv-loop
-    μ-loop
-    loop-holds
-    stepped-requires
-    cast-out
-    slice-write-out
-    add-i
-    loop-less
-    loop-again
-    same-length
-    returns)
+    (tie.spec Inv-loop μ-loop loop-holds stepped-requires cast-out slice-write-out add-i loop-less loop-again same-length returns)

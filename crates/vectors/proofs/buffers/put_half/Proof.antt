@@ -47,17 +47,5 @@ returns c = search needs
 pub put-half-spec : {M : Type 1} → statement M
 put-half-spec =
     tie.close
-    (tie.spec
-    byte-of-requires
-    slice-write-out
-    byte-of-requires-2
-    add-out
-    slice-write-out-2
-    byte-of-requires-3
-    add-out-2
-    slice-write-out-3
-    byte-of-requires-4
-    add-out-3
-    slice-write-out-4
-    same-length
-    returns)
+    (tie.spec byte-of-requires slice-write-out byte-of-requires-2 add-out slice-write-out-2 byte-of-requires-3 add-out-2 slice-write-out-3
+    byte-of-requires-4 add-out-3 slice-write-out-4 same-length returns)

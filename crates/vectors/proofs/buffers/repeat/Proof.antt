@@ -38,16 +38,4 @@ returns : tie.Need-returns Inv-loop μ-loop
 returns c = c .before .loop .inv
 
 pub repeat-spec : {M : Type 1} → statement M
-repeat-spec =
-    tie.close
-    (tie.spec
-    Inv-loop
-    μ-loop
-    loop-holds
-    repeated-byte-requires
-    slice-write-out
-    add-i
-    loop-less
-    loop-again
-    same-length
-    returns)
+repeat-spec = tie.close (tie.spec Inv-loop μ-loop loop-holds repeated-byte-requires slice-write-out add-i loop-less loop-again same-length returns)

@@ -30,14 +30,4 @@ returns : tie.Need-returns Inv-loop μ-loop
 returns c = tt
 
 pub any-spec : {M : Type 1} → statement M
-any-spec =
-    tie.close
-    (tie.spec
-    Inv-loop
-    μ-loop
-    loop-holds
-    shared-slice-read-found
-    add-i
-    loop-less
-    loop-again
-    returns)
+any-spec = tie.close (tie.spec Inv-loop μ-loop loop-holds shared-slice-read-found add-i loop-less loop-again returns)

@@ -42,15 +42,5 @@ returns c = tt
 pub float-lines-spec : {M : Type 1} → statement M
 float-lines-spec =
     tie.close
-    (tie.spec
-    Inv-loop
-    μ-loop
-    loop-holds
-    mul-say-float
-    shared-slice-read-say-float
-    say-float-requires
-    end-line-requires
-    add-i
-    loop-less
-    loop-again
+    (tie.spec Inv-loop μ-loop loop-holds mul-say-float shared-slice-read-say-float say-float-requires end-line-requires add-i loop-less loop-again
     returns)

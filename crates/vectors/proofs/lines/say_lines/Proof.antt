@@ -42,15 +42,5 @@ returns c = tt
 pub say-lines-spec : {M : Type 1} → statement M
 say-lines-spec =
     tie.close
-    (tie.spec
-    Inv-loop
-    μ-loop
-    loop-holds
-    line-end-requires
-    sub-say-line
-    part-say-line-start
-    part-say-line-end
-    say-line-requires
-    loop-less
-    loop-again
+    (tie.spec Inv-loop μ-loop loop-holds line-end-requires sub-say-line part-say-line-start part-say-line-end say-line-requires loop-less loop-again
     returns)
