@@ -71,7 +71,7 @@ fn fill_items(out: &mut [u8], value: u32, n: usize, w: usize)
     }
 }
 
-// n items of a brick of this kind, from this item on; a missing one reads as it does.
+// n items of a brick of this kind, from this item on; `missing` is what a missing one reads as.
 fn read_items(
     out: &mut [u8],
     file: &[u8],
