@@ -43,14 +43,11 @@ enum {
     ZGY_REFUSED_OVERLAP = 13,    /* a stored brick shares bytes with one of a lower entry; entry says which */
     ZGY_REFUSED_RECORD = 14,     /* the record is none that opening gives, or is that of a file of another length */
     ZGY_REFUSED_LEVEL = 15,      /* there is no such level */
-    ZGY_REFUSED_INDEX = 16,      /* a count of 0, a region outside the extent, or no such dimension, index, entry or edit */
+    ZGY_REFUSED_INDEX = 16,      /* a count of 0, a region outside the extent, or no such dimension, index or entry */
     ZGY_REFUSED_FILLER = 17,     /* the filler does not hold the brick's value again and again */
     ZGY_REFUSED_ROOM = 18,       /* a lent buffer is too short */
-    ZGY_REFUSED_NOT_STORED = 19, /* a write or an undo touches a brick that is not stored; entry says which */
-    ZGY_REFUSED_SUBTILES = 20,   /* sides or item width that the version 1 brick order does not have */
-    ZGY_REFUSED_LOG = 22,        /* the log is malformed, or holds an edit that this cube cannot have */
-    ZGY_REFUSED_LOG_ROOM = 23,   /* the log has no room left for this edit, or a count of it would pass 4,294,967,295 */
-    ZGY_REFUSED_EDITS = 24       /* the log holds fewer edits than are to be taken back */
+    ZGY_REFUSED_NOT_STORED = 19, /* a write touches a brick that is not stored; entry says which */
+    ZGY_REFUSED_SUBTILES = 20    /* sides or item width that the version 1 brick order does not have */
 };
 
 /* ZgyKind.kind */
@@ -153,7 +150,7 @@ typedef struct ZgyString {
 typedef struct ZgyDone {
     uint32_t number;
     uint32_t entry;
-    uint64_t count;     /* bytes or doubles moved or made, or edits counted; 0 where refused */
+    uint64_t count;     /* bytes or doubles moved or made; 0 where refused */
 } ZgyDone;
 
 typedef struct ZgyPosition {
@@ -161,12 +158,6 @@ typedef struct ZgyPosition {
     uint32_t entry;
     double value;
 } ZgyPosition;
-
-typedef struct ZgyEdit {
-    uint32_t number;
-    uint32_t entry;
-    ZgyRegion region;   /* what the edit wrote; all zero where refused */
-} ZgyEdit;
 
 /*
  * Opens a cube: checks the headers, the text and the whole brick table.
@@ -222,68 +213,6 @@ ZgyDone zgy_read_float(double *out, size_t out_length, const uint8_t *file, size
  * Refusals: 14, 15, 16, 18, 12, 19, in this order.
  */
 ZgyDone zgy_write(uint8_t *file, size_t file_length, const uint8_t *input, size_t input_length, ZgyRecord cube, ZgyRegion region);
-
-/*
- * The log, which zgy_write_logged adds to and zgy_undo takes from, lies at the front of a buffer of the host's:
- *   uint32                 how many edits it holds, n
- *   7 x uint32, n times    the edits' heads, oldest edit first: level, start (three), count (three)
- *   uint32                 how many sample bytes it holds, m
- *   m bytes                what the samples were before each edit, oldest edit first, each edit's in the order of zgy_read_raw
- * all numbers little-endian, with no gaps. It ends at 8 + 28 x n + m, and the bytes after that are free room. Eight zero bytes,
- * or more, are an empty log. An edit takes 28 bytes and those of its region: samples x item bytes.
- *
- * A log is well formed for a record where it ends inside the buffer, each head is a region inside the extent of a level that the
- * cube has, each count at least 1, and m is the sum of the bytes of the heads' regions. Any other buffer is refused by 22; one of
- * fewer than 8 bytes always is. The log does not say which cube it belongs to: the host keeps the two together. That of another
- * cube is refused, or what it holds is written as it says.
- *
- * What is promised: undoing the last n logged writes, with the record that they used, gives the bytes of the cube as they were
- * before these writes, provided that nothing else has changed cube or log since. Reads and refused calls change neither; edits may
- * be undone one by one or together, and others logged between. A write that does not log (zgy_write) breaks this chain, and the
- * promise then covers only the edits after it.
- */
-
-/*
- * Writes a region as zgy_write does, and saves in the log what its samples were before.
- *   file, cube    the opened cube's bytes and its record
- *   log           well formed for the record, with room for the edit
- *   input         at least samples x item bytes; more are not looked at
- *   region        inside the level's extent, each count at least 1, and in stored bricks alone
- * Answers the bytes written. The cube is as zgy_write leaves it. The log holds one edit more, the newest; its other edits, and all
- * bytes after its new end, stay. The sample bytes of the other edits move up by 28, as the new head goes before them.
- * Refusals: 14, 15, 16, 18, 12, 19, 22, 23, in this order.
- */
-ZgyDone zgy_write_logged(uint8_t *file, size_t file_length, uint8_t *log, size_t log_length, const uint8_t *input,
-                         size_t input_length, ZgyRecord cube, ZgyRegion region);
-
-/*
- * Takes back the last n edits of the log: writes what it saved, the newest edit's first.
- *   file, cube    the opened cube's bytes and its record
- *   log           well formed for the record
- *   n             how many edits; 0 is taken, and changes nothing
- * Answers the sample bytes restored. The cube is as n writes of the saved bytes leave it. The log no longer holds these edits; the
- * sample bytes of those that it still holds move down by 28 x n, the bytes from its new end to its old one are zero, and those
- * after its old end stay.
- * Refusals: 14, 22, 24, 12, 19, in this order. 12 and 19 are over all bricks that any of the n edits touches, and entry is the
- * lowest of all of these at fault.
- */
-ZgyDone zgy_undo(uint8_t *file, size_t file_length, uint8_t *log, size_t log_length, ZgyRecord cube, uint32_t n);
-
-/*
- * How many edits a log holds.
- *   log           well formed for the record
- *   cube          the record of the cube whose edits it holds; no file is lent
- * Answers the number of edits as count, which is 0 for an empty log. Refusals: 14, 22, in this order.
- */
-ZgyDone zgy_log_edits(const uint8_t *log, size_t log_length, ZgyRecord cube);
-
-/*
- * What an edit of a log wrote.
- *   log, cube     as for zgy_log_edits
- *   n             which edit, counted from the newest: 0 to the number of edits - 1
- * Answers the edit's region. Refusals: 14, 22, 16, in this order; 16 where there is no such edit.
- */
-ZgyEdit zgy_log_edit(const uint8_t *log, size_t log_length, ZgyRecord cube, uint32_t n);
 
 /*
  * Where an index stands along a dimension at level 0: orig + index x inc.
@@ -343,7 +272,6 @@ ZGY_SIZE_IS(ZgyView, 32);
 ZGY_SIZE_IS(ZgyString, 32);
 ZGY_SIZE_IS(ZgyDone, 16);
 ZGY_SIZE_IS(ZgyPosition, 16);
-ZGY_SIZE_IS(ZgyEdit, 36);
 #undef ZGY_SIZE_IS
 
 #ifdef __cplusplus

@@ -5,10 +5,6 @@ It shares nothing with the crates: what it reads and makes is what they are comp
 
     python3 tools/second_reader.py listings     writes the files that the listing programs are run on, and what they must write
     python3 tools/second_reader.py vectors      the same for the program vectors: cubes, the calls on them, and their answers
-
-A log of edits is read whole into a list of edits, changed there, and written out anew: nothing is moved inside its bytes. Lists of
-logged writes and undos are run on cubes of every shape, with the log's bytes after each; logs written by hand, most of them malformed,
-on one cube of each type. Before anything is written it is seen that undo of a whole list gives the cube back, and an empty log.
 """
 
 import math
@@ -618,32 +614,23 @@ def touched_entries(description, region):
         entry_number(description, region.level, (i, j, k)) for i in spans[0] for j in spans[1] for k in spans[2])
 
 
-def check_box(record, region):
-    """Checks 15 and 16."""
+def check_region(file, record, region, room, item, writes=False):
+    """Checks 14, 15, 16, 18 and 12, and 19 for writes. Room and item are the buffer's length and what a sample takes of it."""
+    check_lent(file, record)
     if region.level >= record.levels:
         raise Refusal(15)
     whole = extent(record.description, region.level)
     if any(c == 0 or s + c > n for s, c, n in zip(region.start, region.count, whole)):
         raise Refusal(16)
-
-
-def check_touched(file, record, entries, writes):
-    """Check 12 of entries, ascending, and then 19 for writes."""
+    if room < math.prod(region.count) * item:
+        raise Refusal(18)
+    entries = touched_entries(record.description, region)
     for entry in entries:
         if not in_range(brick_at(file, record, entry), record):
             raise Refusal(12, entry)
     for entry in entries:
         if writes and brick_at(file, record, entry).kind != "stored":
             raise Refusal(19, entry)
-
-
-def check_region(file, record, region, room, item, writes=False):
-    """Checks 14, 15, 16, 18 and 12, and 19 for writes. Room and item are the buffer's length and what a sample takes of it."""
-    check_lent(file, record)
-    check_box(record, region)
-    if room < math.prod(region.count) * item:
-        raise Refusal(18)
-    check_touched(file, record, touched_entries(record.description, region), writes)
 
 
 def sample_bytes(file, record, level, sample):
@@ -714,98 +701,6 @@ def make(description, text, fill, room):
     if room < length:
         raise Refusal(18)
     return FILLS[fill](description, text)
-
-
-# ---------------------------------------------------------------------------------------------------------------------
-# The log of edits
-
-HEAD_BYTES = 28
-LARGEST_U32 = (1 << 32) - 1
-
-
-@dataclass(frozen=True)
-class Edit:
-    """An edit that a log holds: its region, and the bytes that stood there before it."""
-
-    region: Region
-    old: bytes
-
-
-def sections_of(edits):
-    """A log's two sections, each after its count, both oldest edit first: the heads, and the sample bytes."""
-    heads = b"".join(struct.pack("<7I", e.region.level, *e.region.start, *e.region.count) for e in edits)
-    samples = b"".join(e.old for e in edits)
-    return struct.pack("<I", len(edits)) + heads + struct.pack("<I", len(samples)) + samples
-
-
-def edits_of(log, record):
-    """The edits that a log holds, oldest first. Check 22."""
-    if len(log) < 4:
-        raise Refusal(22)
-    (count,) = struct.unpack_from("<I", log)
-    start = 4 + HEAD_BYTES * count + 4
-    if len(log) < start:
-        raise Refusal(22)
-    heads = [struct.unpack_from("<7I", log, 4 + HEAD_BYTES * number) for number in range(count)]
-    regions = [Region(head[0], head[1:4], head[4:]) for head in heads]
-    for region in regions:
-        try:
-            check_box(record, region)
-        except Refusal:
-            raise Refusal(22) from None
-    lengths = [math.prod(region.count) * WIDTHS[record.description.type] for region in regions]
-    (total,) = struct.unpack_from("<I", log, start - 4)
-    if total != sum(lengths) or len(log) < start + total:
-        raise Refusal(22)
-    edits = []
-    for region, length in zip(regions, lengths):
-        edits.append(Edit(region, log[start:start + length]))
-        start += length
-    return edits
-
-
-def write_logged(file, log, source, record, region):
-    """The file after a write, the log with what stood there before, and how many bytes were written. Checks 22 and 23 are the last."""
-    after, count = write_region(file, source, record, region)
-    edits = edits_of(log, record)
-    old = b"".join(sample_bytes(file, record, region.level, sample) for sample in region.samples())
-    longer = [*edits, Edit(region, old)]
-    if len(longer) > LARGEST_U32 or sum(len(edit.old) for edit in longer) > LARGEST_U32:
-        raise Refusal(23)
-    sections = sections_of(longer)
-    if len(sections) > len(log):
-        raise Refusal(23)
-    return after, sections + log[len(sections):], count
-
-
-def undo(file, log, record, number):
-    """The file and the log with the last edits taken back, newest first, and how many bytes that restored. Checks 14, 22, 24, 12 and 19."""
-    check_lent(file, record)
-    edits = edits_of(log, record)
-    if number > len(edits):
-        raise Refusal(24)
-    left, last = edits[:len(edits) - number], edits[len(edits) - number:]
-    touched = {entry for edit in last for entry in touched_entries(record.description, edit.region)}
-    check_touched(file, record, sorted(touched), writes=True)
-    for edit in reversed(last):
-        file, _ = write_region(file, edit.old, record, edit.region)
-    before, sections = len(sections_of(edits)), sections_of(left)
-    return file, sections + bytes(before - len(sections)) + log[before:], sum(len(edit.old) for edit in last)
-
-
-def edit_count(log, record):
-    """How many edits a log holds. Checks 14 and 22."""
-    check_record(record)
-    return len(edits_of(log, record))
-
-
-def edit_region(log, record, number):
-    """The region of an edit, by its number from the newest. Checks 14, 22 and 16."""
-    check_record(record)
-    edits = edits_of(log, record)
-    if number >= len(edits):
-        raise Refusal(16)
-    return edits[len(edits) - 1 - number].region
 
 
 # ---------------------------------------------------------------------------------------------------------------------
@@ -1081,12 +976,6 @@ CALLS = [
     "lend",      # how many bytes of the file are lent from now on
     "strings",   # nothing: all strings, by a walker
     "field",     # the field of the record that is changed, its part, and the low and the high half of its value
-    "logged",    # level, start 3, count 3: a write that logs
-    "undo",      # how many edits are taken back
-    "edits",     # nothing: how many edits the log holds
-    "edit",      # number, from the newest
-    "lendlog",   # how many bytes of the log are lent from now on
-    "putlog",    # where in the log, and the low and the high half of the 8 bytes put there
 ]
 
 # What a buffer holds before a call.
@@ -1164,16 +1053,10 @@ class Session:
         self.record = open_record(file)
         self.size_of_buffers = 2048
         self.start = 1
-        self.held_log = bytearray(HELD)
-        self.lent_log = 2048
 
     @property
     def file(self):
         return bytes(self.held[:self.lent])
-
-    @property
-    def log(self):
-        return bytes(self.held_log[:self.lent_log])
 
     def answer(self, name, arguments):
         """The lines of a call. A refused one leaves its buffer as it was, and that shows in the hash."""
@@ -1314,47 +1197,6 @@ class Session:
         self.record = replace(self.record, description=holder) if described else holder
         return [""]
 
-    def changed(self, call, *arguments):
-        """A call that changes cube and log: its answer, and the hashes of both after it."""
-        try:
-            file, log, count = call(self.file, self.log, *arguments)
-        except Refusal as refusal:
-            return [f"{refused(refusal)} {fnv(self.file)} {fnv(self.log)}"]
-        self.held[:self.lent] = file
-        self.held_log[:self.lent_log] = log
-        return [f"taken {count} {fnv(self.file)} {fnv(self.log)}"]
-
-    def logged(self, level, *box):
-        source = pseudo_random(self.start, self.size_of_buffers)
-        return self.changed(write_logged, source, self.record, Region(level, box[:3], box[3:]))
-
-    def undo(self, number):
-        return self.changed(undo, self.record, number)
-
-    def edits(self):
-        """How many edits, the hash of the log, and its bytes where it is short."""
-        shown = byte_lines(self.log) if len(self.log) <= SHOWN else []
-        try:
-            return [f"taken {edit_count(self.log, self.record)} {fnv(self.log)}"] + shown
-        except Refusal as refusal:
-            return [f"{refused(refusal)} {fnv(self.log)}"] + shown
-
-    def edit(self, number):
-        """The region of an edit; beside a refusal it is zeros."""
-        try:
-            region = edit_region(self.log, self.record, number)
-        except Refusal as refusal:
-            return [f"{refused(refusal)} 0 0 0 0 0 0 0"]
-        return ["taken {} {} {} {} {} {} {}".format(region.level, *region.start, *region.count)]
-
-    def lendlog(self, count):
-        self.lent_log = count
-        return [""]
-
-    def putlog(self, at, low, high):
-        self.held_log[at:at + 8] = struct.pack("<II", low, high)
-        return [""]
-
 
 def refused(refusal):
     return f"refused {refusal.number} {refusal.entry}"
@@ -1385,6 +1227,7 @@ def packed_calls(calls):
 # ---------------------------------------------------------------------------------------------------------------------
 # The cubes that the program vectors is run on
 
+LARGEST_U32 = (1 << 32) - 1
 NO_SPOILT = LARGEST_U32
 
 # 32-bit floats that are no NaN, the ends of every kind among them: zeros, subnormals, ones, largest, infinite.
@@ -1767,10 +1610,10 @@ def overlap_calls(file, record):
 
 
 def every_call(record):
-    """One call of each kind, to be refused by 14; asking a log and a position are lent no file, and are taken or refused without it."""
+    """One call of each kind, to be refused by 14."""
     whole = whole_level(record.description, 0)
     return [("kind", 0), ("view", 0, 0, 1, 0, 0), ("raw", *whole), ("float", *whole), ("write", *whole), ("position", 0, 0),
-            ("string", 0), ("strings",), ("logged", *whole), ("undo", 0), ("edits",), ("edit", 0)]
+            ("string", 0), ("strings",)]
 
 
 def misfit_calls(record):
@@ -1790,8 +1633,7 @@ def misfit_calls(record):
         ("alphas", 0, record.alphas + 1), ("length", 0, record.header - 1), ("length", 0, (1 << 64) - 1),
     ]
     for name, part, value in changes:
-        calls += [("field", FIELD_NUMBERS[name], part, *halves(value)), ("kind", 0), ("position", 2, 0), ("string", 0)]
-        calls += [("undo", 0), ("edits",), ("edit", 0), ("open",)]
+        calls += [("field", FIELD_NUMBERS[name], part, *halves(value)), ("kind", 0), ("position", 2, 0), ("string", 0), ("open",)]
     return calls
 
 
@@ -1810,158 +1652,6 @@ def make_calls(record):
     for start, length in [(TEXT_AT, 4), (TEXT_AT, record.text - 1), (TEXT_AT + 1, record.text), (TEXT_AT, 0)]:
         calls += [("make", 0, start, length)]
     return calls
-
-
-def touched_by(description, region):
-    """The entries that a region, as a call has it, touches."""
-    return touched_entries(description, Region(region[0], region[1:4], region[4:]))
-
-
-def edited_regions(file, record, chance):
-    """Regions whose bricks are all stored. Of each level that has such: of sixty one over the most bricks, and one that ends at the
-    most edges of the level; then the first of all again, and a sample of it."""
-    d = record.description
-    stored = set(stored_entries(file, record))
-    regions = []
-    for level in range(record.levels):
-        found = [r for r in (random_region(d, chance, level) for _ in range(60)) if stored.issuperset(touched_by(d, r))]
-        if found:
-            regions.append(max(found, key=lambda r: len(touched_by(d, r))))
-            regions.append(max(found, key=lambda r: sum(s + c == n for s, c, n in zip(r[1:4], r[4:], extent(d, level)))))
-    return regions + [(*first[:4], *counts) for first in regions[:1] for counts in (first[4:], (1, 1, 1))]
-
-
-def edit_length(record, region):
-    """The bytes that an edit takes of a log."""
-    return HEAD_BYTES + math.prod(region[4:]) * WIDTHS[record.description.type]
-
-
-def log_end(record, regions):
-    """Where a log with edits of these regions ends."""
-    return 8 + sum(edit_length(record, region) for region in regions)
-
-
-MARK = (0x5A5A5A5A, 0xC3C3C3C3)
-
-
-def logged_calls(file, record, chance):
-    """Logged writes with reads between, what the log holds, and undo: of none, one, several, more than there are, and all. The log
-    has room for all edits, with a mark in that room and one after it; a byte less is refused by 23. At the end the cube is as it was,
-    and the log is empty."""
-    d = record.description
-    stored = set(stored_entries(file, record))
-    regions = edited_regions(file, record, chance)
-    end = log_end(record, regions)
-    levels = [whole_level(d, level) for level in range(record.levels)]
-    nothing = [("edits",), ("edit", 0), ("undo", 0), ("undo", 1)]
-    calls = [("room", math.prod(d.size) * WIDTHS[d.type]), ("lendlog", end + 8), ("putlog", end, *MARK)]
-    calls += [("putlog", end - 8, *MARK)] if regions else []
-    calls += nothing
-    for number, region in enumerate(regions, 1):
-        write = ("logged", *region)
-        calls += [("seed", chance.getrandbits(31))]
-        if number == len(regions):
-            calls += [("lendlog", end - HEAD_BYTES), write, ("lendlog", end - 1), write, ("lendlog", end), write, ("edits",), write]
-            calls += [("lendlog", end + 8)]
-        else:
-            calls += [write]
-        calls += [("raw", *region), ("edits",)]
-    calls += [("logged", *whole) for whole in levels if not stored.issuperset(touched_by(d, whole))]
-    calls += [("edit", number) for number in (*range(len(regions) + 1), LARGEST_U32)]
-    calls += [("undo", len(regions) + 1), ("undo", LARGEST_U32)]
-    if regions:
-        first, last, several = regions[0], regions[-1], len(regions) // 2
-        calls += [("undo", 1), ("raw", *last), ("undo", several), ("raw", *first), ("edits",), ("edit", 0), *[("logged", *last)] * 2]
-        calls += [("undo", 1), ("undo", len(regions) - several), ("raw", *first)]
-    return calls + nothing + [("putlog", end, 0, 0)]
-
-
-def chain_calls(file, record, chance):
-    """A plain write between two logged ones: undo of the later gives back what the plain write left, and undo of the earlier writes
-    the bytes that the log holds over it."""
-    d = record.description
-    calls = []
-    for region in edited_regions(file, record, chance)[:1]:
-        brick = region_of_brick(d, touched_by(d, region)[0])
-        calls += [("lendlog", log_end(record, [region, brick]) + 9)]
-        for call in (("logged", *region), ("write", *brick), ("logged", *brick)):
-            calls += [("seed", chance.getrandbits(31)), call]
-        calls += [("undo", 1), ("raw", *brick), ("undo", 1), ("raw", *brick)]
-    return calls
-
-
-def undo_calls(file, record):
-    """Entries changed between logged writes and undo: 12 before 19, and the lowest entry of all edits that are taken back."""
-    stored = stored_entries(file, record)
-    if len(stored) < 2:
-        return []
-    low, high = stored[0], stored[-1]
-    write_low, write_high = (("logged", *region_of_brick(record.description, entry)) for entry in (low, high))
-    both = [("undo", 1), ("undo", 2), ("undo", 3)]
-    mended = [put_entry(record, entry, brick_at(file, record, entry).value) for entry in (low, high)]
-    return [
-        ("seed", 77), ("lendlog", log_end(record, [write_low[1:], write_high[1:]])), write_low, write_high,
-        put_entry(record, low, MISSING), put_entry(record, high, constant(3)), *both,
-        put_entry(record, high, record.header - 1), *both,
-        mended[1], ("undo", 2), ("undo", 1), ("undo", 1),
-        mended[0], ("undo", 1), ("open",),
-    ]
-
-
-def put_log(before, after):
-    """The calls that give the log these numbers at its front where it has others."""
-    pairs = [(at, before[at:at + 2], after[at:at + 2]) for at in range(0, len(after), 2)]
-    return [("putlog", 4 * at, *new) for at, old, new in pairs if old != new]
-
-
-def log_calls(file, record):
-    """Logs written by hand: one that is taken and restores what it says, those that 22 refuses, and 22 in the order of the checks."""
-    d = record.description
-    width = WIDTHS[d.type]
-    level, *start = region_of_brick(d, stored_entries(file, record)[0])[:4]
-    count = (1, 1, 2)
-    region = (level, *start, *count)
-    length = 2 * width
-    end = 36 + length
-    write = ("logged", *region)
-    every = [("edits",), ("edit", 0), ("undo", 1), write]
-
-    def log_of(number=1, head=region, total=length):
-        return (number, *head, total, 0x04030201, 0x08070605, 0)
-
-    empty, good = (0,) * 12, log_of()
-    calls = [("seed", 78), ("room", length), ("lendlog", end), *put_log(empty, good), *every, ("raw", *region), ("undo", 1)]
-    # Sections past the log's end, by one byte and by more.
-    calls += put_log(empty, good)
-    for room in (end - 1, 36, 35, 8, 7, 3, 0):
-        calls += [("lendlog", room), *every]
-    # Room for one more edit, and a byte less.
-    more = end + HEAD_BYTES + length
-    calls += [("lendlog", more - 1), write, ("lendlog", more), write, ("edits",), ("edit", 1), ("undo", 2)]
-    # Counts that do not agree, among them those of the other widths; heads that 15 or 16 would refuse.
-    last = good
-    totals = {length + 1, length - 1, 0, 64, 65, LARGEST_U32, *(2 * other for other in WIDTHS.values())} - {length}
-    calls += [("lendlog", 100), *put_log(empty, good)]
-    for spoilt in [
-            *(log_of(total=total) for total in sorted(totals)),
-            *(log_of(number=number) for number in (2, 3, 4, LARGEST_U32)),
-            log_of(number=0, head=(1, *region[1:])),
-            log_of(head=(record.levels, *region[1:])),
-            log_of(head=(LARGEST_U32, *region[1:])),
-            log_of(head=(*region[:4], 0, 1, 2), total=0),
-            log_of(head=(level, extent(d, level)[0], *start[1:], *count)),
-            log_of(head=(level, *start[:2], LARGEST_U32, *count)),
-            log_of(head=(level, *start, LARGEST_U32, LARGEST_U32, LARGEST_U32))]:
-        calls += [*put_log(last, spoilt), ("edits",), ("edit", 0), ("undo", 0), write]
-        last = spoilt
-    # The log is malformed still: a write's own checks come before 22, and 22 before 24.
-    entry = touched_by(d, region)[0]
-    calls += [("undo", LARGEST_U32), ("lend", record.length - 1), *every, ("lend", record.length)]
-    calls += [("logged", record.levels, *region[1:]), ("logged", *region[:4], 0, 1, 1), ("room", length - 1), write, ("room", length)]
-    calls += [put_entry(record, entry, MISSING), write, put_entry(record, entry, record.header - 1), write]
-    calls += [put_entry(record, entry, brick_at(file, record, entry).value), write]
-    # Eight zero bytes are an empty log, with no room.
-    return calls + [*put_log(last, empty), ("lendlog", 8), ("edits",), write, ("undo", 0), ("undo", 1)]
 
 
 def permutation_calls():
@@ -1990,9 +1680,6 @@ def standard_calls(seed, file):
         *write_calls(file, record, chance),
         *damaged_calls(file, record),
         *overlap_calls(file, record),
-        *logged_calls(file, record, chance),
-        *chain_calls(file, record, chance),
-        *undo_calls(file, record),
     ]
 
 
@@ -2014,10 +1701,6 @@ REFUSED_VECTORS = [
 ]
 
 
-# A cube of each type, for logs written by hand.
-LOGS_BY_HAND = ("int8_side_4", "int16_mixed_sides", "float32_side_4")
-
-
 def vector_files():
     """Every cube and the calls on it, by name, in order."""
     small = Description(size=(6, 5, 3), range_bits=floats_bits(-2.0, 3.0), inc_bits=floats_bits(0.1, 25.0, 1e30), **IDS, **UNITS)
@@ -2034,63 +1717,25 @@ def vector_files():
         "permutations": (all_constant(CASE_13, NO_STRINGS), permutation_calls()),
     }
     for seed, (name, file) in enumerate(shapes().items()):
-        record = open_record(file)
-        by_hand = log_calls(file, record) if name in LOGS_BY_HAND else []
-        files[name] = (file, standard_calls(seed, file) + by_hand + make_calls(record))
+        files[name] = (file, standard_calls(seed, file) + make_calls(open_record(file)))
     refusals = {**refused_by_fields(), **refused_by_sections(), **refused_by_entries()}
     for name in REFUSED_VECTORS:
         files[name] = (refusals[name], [])
     return files
 
 
-# The numbers of FORMAT 9.2.
-NUMBERS = {*range(1, 21), 22, 23, 24}
-
-# Those that each call on a log has.
-LOG_NUMBERS = {
-    "logged": {14, 15, 16, 18, 12, 19, 22, 23},
-    "undo": {14, 22, 24, 12, 19},
-    "edits": {14, 22},
-    "edit": {14, 22, 16},
-}
-
-
-def numbers_seen(lines):
-    """The numbers of the refusals in these lines."""
-    return {int(words[words.index("refused") + 1]) for words in map(str.split, lines) if "refused" in words}
-
-
 def expect_numbers_seen(lines):
-    """Every number of the table appears, and of each call on a log every number that it has."""
-    if numbers_seen(lines) != NUMBERS:
-        raise SystemExit(f"refusals without a call: {sorted(NUMBERS - numbers_seen(lines))}")
-    for call, numbers in LOG_NUMBERS.items():
-        seen = numbers_seen(line for line in lines if line.split()[0].rstrip(":") == call)
-        expect(seen, numbers, f"refusals of {call}")
-
-
-def expect_taken_back(cubes):
-    """Undo of all logged writes of a list leaves the cube as it was before them, and an empty log with its mark after it. Of each type
-    writes to level 0, to higher levels and over several bricks are among those taken."""
-    seen = set()
-    for name, file in cubes.items():
-        session = Session(file)
-        d = session.record.description
-        *calls, (_, end, _, _) = logged_calls(file, session.record, random.Random(name))
-        for call, *arguments in calls:
-            line = session.answer(call, arguments)[0]
-            if call == "logged" and "taken" in line:
-                seen |= {(d.type, "level 0" if arguments[0] == 0 else "higher"), (d.type, min(2, len(touched_by(d, arguments))))}
-        expect(session.file, file, f"{name}: the cube after undo of all edits")
-        expect(session.log, bytes(end) + struct.pack("<II", *MARK), f"{name}: the log after undo of all edits")
-    expect(seen, {(number, what) for number in WIDTHS for what in ("level 0", "higher", 1, 2)}, "logged writes taken, by type")
+    """Every number of the table appears."""
+    seen = {int(words[words.index("refused") + 1]) for words in map(str.split, lines) if "refused" in words}
+    if seen != set(range(1, 21)):
+        raise SystemExit(f"refusals without a call: {sorted(set(range(1, 21)) - seen)}")
 
 
 def expect_levels_named(lines):
     """Refusals 12 and 19 name entries of level 0 and, after the table's first entry, of levels above it."""
     seen = set()
     for words in map(str.split, lines):
-        if words[0] in ("raw", "float", "write", "logged") and words[8] == "refused" and words[10] != "0":
+        if words[0] in ("raw", "float", "write") and words[8] == "refused" and words[10] != "0":
             seen.add((int(words[9]), words[1] == "0"))
     unseen = {(number, lowest) for number in (12, 19) for lowest in (True, False)} - seen
     if unseen:
@@ -2102,7 +1747,6 @@ def write_vectors():
     expect_worked_numbers()
     expect_highest_first()
     expect_specials()
-    expect_taken_back(shapes())
     files = vector_files()
     folder = ROOT / "crates" / "vectors"
     (folder / "data").mkdir(parents=True, exist_ok=True)

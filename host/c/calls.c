@@ -113,102 +113,6 @@ static void samples(uint8_t *file, ZgyRecord cube)
     CHECK(zgy_read_float(floats, 5, file, LENGTH, cube, g).number == ZGY_REFUSED_RECORD);
 }
 
-/* A number of a log, little-endian. */
-static uint32_t word(const uint8_t *log)
-{
-    return log[0] | (uint32_t)log[1] << 8 | (uint32_t)log[2] << 16 | (uint32_t)log[3] << 24;
-}
-
-static int is_zero(const uint8_t *bytes, size_t length)
-{
-    size_t n;
-    for (n = 0; n < length; n++) {
-        if (bytes[n] != 0) {
-            return 0;
-        }
-    }
-    return 1;
-}
-
-/*
- * Two logged writes, what the log holds after each, and taking them back. The first edit has 4 bytes, the second 1, so the log
- * ends at 8 + 28 + 4 = 40 and then at 8 + 2 x 28 + 5 = 69: exactly the room there is, before one free byte.
- */
-static void edits(uint8_t *file, ZgyRecord cube)
-{
-    enum { FIRST_END = 40, END = 69, LOG = 70, SAMPLES = 8 + 2 * 28 };
-    static const uint8_t input[4] = {1, 2, 3, 4};
-    static const uint8_t saved[5] = {0x80, 0x00, 0x01, 0x7f, 0x02};
-    uint8_t before[LENGTH], log[LOG];
-    ZgyRegion g = region(0, 1, 2, 0, 1, 2, 2), one = region(0, 1, 2, 1, 1, 1, 1);
-    ZgyDone first, second, undone;
-    ZgyEdit newest, oldest;
-    memset(log, 0, LOG);
-    log[LOG - 1] = 9;
-    memcpy(before, file, LENGTH);
-    CHECK(zgy_log_edits(log, 8, cube).number == 0 && zgy_log_edits(log, 8, cube).count == 0);
-    first = zgy_write_logged(file, LENGTH, log, LOG, input, 4, cube, g);
-    CHECK(first.number == 0 && first.entry == 0 && first.count == 4);
-    CHECK(word(log) == 1 && word(log + 8) == 1 && word(log + 12) == 2 && word(log + 32) == 4 && memcmp(log + 36, saved, 4) == 0);
-    second = zgy_write_logged(file, LENGTH, log, LOG - 1, input, 1, cube, one);
-    CHECK(second.number == 0 && second.count == 1 && file[FIRST + (1 * 4 + 2) * 4] == 1 && file[FIRST + (1 * 4 + 2) * 4 + 1] == 1);
-    CHECK(word(log) == 2 && word(log + SAMPLES - 4) == 5 && memcmp(log + SAMPLES, saved, 5) == 0 && log[LOG - 1] == 9);
-    CHECK(zgy_log_edits(log, LOG, cube).count == 2);
-    newest = zgy_log_edit(log, LOG, cube, 0);
-    oldest = zgy_log_edit(log, LOG, cube, 1);
-    CHECK(newest.number == 0 && newest.entry == 0 && memcmp(&newest.region, &one, sizeof one) == 0);
-    CHECK(oldest.number == 0 && oldest.entry == 0 && memcmp(&oldest.region, &g, sizeof g) == 0);
-    undone = zgy_undo(file, LENGTH, log, LOG, cube, 0);
-    CHECK(undone.number == 0 && undone.count == 0 && word(log) == 2);
-    undone = zgy_undo(file, LENGTH, log, LOG, cube, 1);
-    CHECK(undone.number == 0 && undone.count == 1 && file[FIRST + (1 * 4 + 2) * 4 + 1] == 2);
-    CHECK(word(log) == 1 && memcmp(log + 36, saved, 4) == 0 && is_zero(log + FIRST_END, END - FIRST_END) && log[LOG - 1] == 9);
-    undone = zgy_undo(file, LENGTH, log, LOG, cube, 1);
-    CHECK(undone.number == 0 && undone.count == 4 && memcmp(file, before, LENGTH) == 0);
-    CHECK(is_zero(log, END) && log[LOG - 1] == 9);
-}
-
-/* What each of the four calls refuses, with cube and log as they were. */
-static void refused_edits(uint8_t *file, ZgyRecord cube)
-{
-    enum { LOG = 40 };
-    static const uint8_t input[4] = {5, 6, 7, 8};
-    uint8_t before[LENGTH], log[LOG], held[LOG];
-    ZgyRegion g = region(0, 0, 0, 0, 2, 2, 1);
-    ZgyRecord other = cube;
-    ZgyDone refused;
-    ZgyEdit none;
-    other.levels = 2;
-    memset(log, 0, LOG);
-    CHECK(zgy_write_logged(file, LENGTH, log, LOG, input, 4, cube, g).count == 4);
-    memcpy(before, file, LENGTH);
-    memcpy(held, log, LOG);
-    refused = zgy_write_logged(file, LENGTH, log, LOG, input, 4, cube, g);
-    CHECK(refused.number == ZGY_REFUSED_LOG_ROOM && refused.entry == 0 && refused.count == 0);
-    refused = zgy_write_logged(file, LENGTH, log, LOG - 1, input, 4, cube, g);
-    CHECK(refused.number == ZGY_REFUSED_LOG && refused.entry == 0 && refused.count == 0);
-    CHECK(zgy_write_logged(file, LENGTH, log, LOG, input, 3, cube, g).number == ZGY_REFUSED_ROOM);
-    CHECK(zgy_write_logged(file, LENGTH, log, LOG, input, 4, other, g).number == ZGY_REFUSED_RECORD);
-    CHECK(zgy_write_logged(file, LENGTH, log, LOG, input, 4, cube, region(1, 0, 0, 0, 1, 1, 1)).number == ZGY_REFUSED_LEVEL);
-    CHECK(zgy_write_logged(file, LENGTH, log, LOG, input, 4, cube, region(0, 0, 0, 0, 1, 0, 1)).number == ZGY_REFUSED_INDEX);
-    refused = zgy_undo(file, LENGTH, log, LOG, cube, 2);
-    CHECK(refused.number == ZGY_REFUSED_EDITS && refused.entry == 0 && refused.count == 0);
-    CHECK(zgy_undo(file, LENGTH, log, LOG - 1, cube, 2).number == ZGY_REFUSED_LOG);
-    CHECK(zgy_undo(file, LENGTH - 1, log, LOG, cube, 1).number == ZGY_REFUSED_RECORD);
-    CHECK(zgy_log_edits(log, LOG, other).number == ZGY_REFUSED_RECORD);
-    refused = zgy_log_edits(log, 7, cube);
-    CHECK(refused.number == ZGY_REFUSED_LOG && refused.entry == 0 && refused.count == 0);
-    none = zgy_log_edit(log, LOG, cube, 1);
-    CHECK(none.number == ZGY_REFUSED_INDEX && none.entry == 0 && none.region.level == 0 && none.region.count[2] == 0);
-    CHECK(zgy_log_edit(log, LOG, other, 0).number == ZGY_REFUSED_RECORD);
-    CHECK(zgy_log_edit(log, LOG - 1, cube, 0).number == ZGY_REFUSED_LOG);
-    log[4 + 16] = 4;
-    CHECK(zgy_log_edits(log, LOG, cube).number == ZGY_REFUSED_LOG);
-    log[4 + 16] = 2;
-    CHECK(memcmp(file, before, LENGTH) == 0 && memcmp(log, held, LOG) == 0);
-    CHECK(zgy_undo(file, LENGTH, log, LOG, cube, 1).count == 4);
-}
-
 static void positions(ZgyRecord cube)
 {
     ZgyPosition p = zgy_position(cube, 1, 3);
@@ -250,7 +154,7 @@ static void entries(void)
 {
     enum { BRICKS = 6, END = 2511, TABLE = END - 8 * BRICKS };
     static const uint8_t one[1] = {77};
-    static uint8_t file[ROOM], log[8 + 2 * 29];
+    static uint8_t file[ROOM];
     ZgyDescription d = described();
     ZgyDone made, refused;
     ZgyRecord cube;
@@ -272,19 +176,6 @@ static void entries(void)
     CHECK(zgy_brick_kind(file, END, cube, 5).value == 5.0);
     refused = zgy_write(file, END, one, 1, cube, region(1, 4, 0, 0, 1, 1, 1));
     CHECK(refused.number == ZGY_REFUSED_NOT_STORED && refused.entry == 2 && refused.count == 0);
-    /* The log of a cube whose bricks were stored once: two edits, of entries 5 and 4. The lowest is named. */
-    log[0] = 2;
-    for (n = 0; n < 2; n++) {
-        log[8 + 28 * n] = (uint8_t)(8 - 4 * n);
-        log[20 + 28 * n] = log[24 + 28 * n] = log[28 + 28 * n] = 1;
-    }
-    log[60] = 2;
-    CHECK(zgy_log_edits(log, sizeof log, cube).count == 2);
-    refused = zgy_undo(file, END, log, sizeof log, cube, 2);
-    CHECK(refused.number == ZGY_REFUSED_NOT_STORED && refused.entry == 4 && refused.count == 0);
-    file[TABLE + 8 * 5 + 7] = 0;
-    refused = zgy_undo(file, END, log, sizeof log, cube, 2);
-    CHECK(refused.number == ZGY_REFUSED_RANGE && refused.entry == 5 && refused.count == 0);
 }
 
 /* Sides (16, 16, 4), place (9, 3, 2): subtiled 558, plain 590. */
@@ -313,8 +204,6 @@ int main(void)
     opening(file);
     kinds_and_views(file, cube);
     samples(file, cube);
-    edits(file, cube);
-    refused_edits(file, cube);
     positions(cube);
     strings();
     entries();

@@ -1,5 +1,5 @@
 -- What a refused call leaves and what a taken one gives, by its verdict. Assumes nothing.
-use Prim.Native.Nat.{ℕ, ◌-◌}
+use Prim.Native.Nat.{ℕ}
 use mathlib.Core.Path.{◌≡◌, refl, ap}
 use mathlib.Core.List.{List, [], ◌∷◌}
 use lib.Ieee.{Float}
@@ -12,14 +12,7 @@ use Rattle.record.specs.declared.Verdict.TheVariants.{Taken, Refused}
 use Rattle.cube.specs.declared.Region.{Region}
 use Rattle.cube.specs.Places.{rows_of}
 use Rattle.cube.specs.Regions.{raw_rows, float_rows, written, after, over}
-use Rattle.cube.specs.Log.{edit_count, appended, dropped}
-use Rattle.cube.specs.Edits.{written_all, kept_bytes}
-use Rattle.cube.specs.Calls.{Call, raw_read, float_read_lem, write, logged_write, undo, raw, floats, lent, verdict_on, moves, answer_of, writes_of, cube_after, buffers_after}
-
--- a call that makes what stood there leaves it either way
-after_same : (v : Verdict) (f : List ℕ) → after v f f ≡ f
-after_same Taken f = refl
-after_same (Refused x) f = refl
+use Rattle.cube.specs.Calls.{Call, raw_read, float_read, write, Buffer, raw, floats, lent, verdict_on, moves, answer_of, cube_after, buffers_after}
 
 module _ (r : Record) (f : List ℕ) where
   -- ---- refused
@@ -31,15 +24,15 @@ module _ (r : Record) (f : List ℕ) where
 
     pub refused-cube : (c : Call) → verdict_on r f c ≡ Refused x → cube_after r f c ≡ f
     unfolding cube_after
-    refused-cube c e = ap (λ (v : Verdict). after v (written_all r (writes_of r c) f) f) e
+    refused-cube (raw_read g b) e = refl
+    refused-cube (float_read g b) e = refl
+    refused-cube (write g d) e = ap (λ (v : Verdict). after v (written r g d f) f) e
 
     pub refused-buffers : (c : Call) → verdict_on r f c ≡ Refused x → buffers_after r f c ≡ lent c
     unfolding buffers_after
     refused-buffers (raw_read g b) e = ap (λ (v : Verdict). raw (after v (over (raw_rows r (rows_of r f) g) b) b) ∷ []) e
-    refused-buffers (float_read_lem g b) e = ap (λ (v : Verdict). floats (after v (over (float_rows r (rows_of r f) g) b) b) ∷ []) e
+    refused-buffers (float_read g b) e = ap (λ (v : Verdict). floats (after v (over (float_rows r (rows_of r f) g) b) b) ∷ []) e
     refused-buffers (write g d) e = refl
-    refused-buffers (logged_write g d l) e = ap (λ (v : Verdict). raw d ∷ raw (after v (appended l g (raw_rows r (rows_of r f) g)) l) ∷ []) e
-    refused-buffers (undo n l) e = ap (λ (v : Verdict). raw (after v (dropped l (edit_count l - n) (kept_bytes r l n)) l) ∷ []) e
 
   -- ---- taken
 
@@ -47,43 +40,26 @@ module _ (r : Record) (f : List ℕ) where
   unfolding answer_of
   taken-answer c e = ap (λ (v : Verdict). done_of v (moves r c)) e
 
-  pub taken-cube : (c : Call) → verdict_on r f c ≡ Taken → cube_after r f c ≡ written_all r (writes_of r c) f
-  unfolding cube_after
-  taken-cube c e = ap (λ (v : Verdict). after v (written_all r (writes_of r c) f) f) e
-
   pub taken-write : (g : Region) (d : List ℕ) → verdict_on r f (write g d) ≡ Taken → cube_after r f (write g d) ≡ written r g d f
-  unfolding written_all
-  taken-write g d e = taken-cube (write g d) e
-
-  pub taken-logged : (g : Region) (d l : List ℕ) → verdict_on r f (logged_write g d l) ≡ Taken → cube_after r f (logged_write g d l) ≡ written r g d f
-  unfolding written_all
-  taken-logged g d l e = taken-cube (logged_write g d l) e
+  unfolding cube_after
+  taken-write g d e = ap (λ (v : Verdict). after v (written r g d f) f) e
 
   pub taken-raw : (g : Region) (b : List ℕ) → verdict_on r f (raw_read g b) ≡ Taken → buffers_after r f (raw_read g b) ≡ raw (over (raw_rows r (rows_of r f) g) b) ∷ []
   unfolding buffers_after
   taken-raw g b e = ap (λ (v : Verdict). raw (after v (over (raw_rows r (rows_of r f) g) b) b) ∷ []) e
 
-  pub taken_float : (g : Region) (b : List Float) → verdict_on r f (float_read_lem g b) ≡ Taken → buffers_after r f (float_read_lem g b) ≡ floats (over (float_rows r (rows_of r f) g) b) ∷ []
+  pub taken_float : (g : Region) (b : List Float) → verdict_on r f (float_read g b) ≡ Taken → buffers_after r f (float_read g b) ≡ floats (over (float_rows r (rows_of r f) g) b) ∷ []
   unfolding buffers_after
   taken_float g b e = ap (λ (v : Verdict). floats (after v (over (float_rows r (rows_of r f) g) b) b) ∷ []) e
 
-  pub taken-log : (g : Region) (d l : List ℕ) → verdict_on r f (logged_write g d l) ≡ Taken
-      → buffers_after r f (logged_write g d l) ≡ raw d ∷ raw (appended l g (raw_rows r (rows_of r f) g)) ∷ []
-  unfolding buffers_after
-  taken-log g d l e = ap (λ (v : Verdict). raw d ∷ raw (after v (appended l g (raw_rows r (rows_of r f) g)) l) ∷ []) e
-
-  pub taken-undo : (n : ℕ) (l : List ℕ) → verdict_on r f (undo n l) ≡ Taken → buffers_after r f (undo n l) ≡ raw (dropped l (edit_count l - n) (kept_bytes r l n)) ∷ []
-  unfolding buffers_after
-  taken-undo n l e = ap (λ (v : Verdict). raw (after v (dropped l (edit_count l - n) (kept_bytes r l n)) l) ∷ []) e
-
   -- a call that changes no cube
   pub raw-cube : (g : Region) (b : List ℕ) → cube_after r f (raw_read g b) ≡ f
-  unfolding cube_after written_all
-  raw-cube g b = after_same (verdict_on r f (raw_read g b)) f
+  unfolding cube_after
+  raw-cube g b = refl
 
-  pub float_cube : (g : Region) (b : List Float) → cube_after r f (float_read_lem g b) ≡ f
-  unfolding cube_after written_all
-  float_cube g b = after_same (verdict_on r f (float_read_lem g b)) f
+  pub float_cube : (g : Region) (b : List Float) → cube_after r f (float_read g b) ≡ f
+  unfolding cube_after
+  float_cube g b = refl
 
   pub write-buffers : (g : Region) (d : List ℕ) → buffers_after r f (write g d) ≡ raw d ∷ []
   unfolding buffers_after

@@ -7,4 +7,3 @@ pub mod Written
 pub mod Rows
 pub mod Runs
 pub mod Calls
-pub mod Edits

@@ -16,7 +16,7 @@ use Rattle.record.specs.declared.Record.{Record}
 use Rattle.checks.proofs.Described.{described_sized}
 use Rattle.checks.proofs.Records.{Fit}
 use Rattle.table.specs.declared.Kind.TheVariants.{Stored}
-use Rattle.cube.specs.Places.{Place, item_bytes, kind_in, entry_in_lem, brick_of, item_no, byte_of, Inside, Extent}
+use Rattle.cube.specs.Places.{Place, item_bytes, kind_in, entry_in, brick_of, item_no, byte_of, Inside, Extent}
 use Rattle.cube.proofs.Valid.{headers, entries, brick_length, Valid}
 
 pub place_path : {p q : Place} → p.lvl ≡ q.lvl → p.i ≡ q.i → p.j ≡ q.j → p.k ≡ q.k → p ≡ q
@@ -52,8 +52,8 @@ module _ (r : Record) where
   pub cover : (l i : ℕ) → 0 < side_of r.description i → extent_along r.description l i ≤ bricks_along r.description l i * side_of r.description i
   cover l i = covers (size_of r.description i) (side_of r.description i) l
 
-  pub entry_lt : (l x y z : ℕ) → BrickIn l x y z → entry_in_lem r l x y z < entries r
-  unfolding entry_in_lem bricks_of
+  pub entry_lt : (l x y z : ℕ) → BrickIn l x y z → entry_in r l x y z < entries r
+  unfolding entry_in bricks_of
   entry_lt l x y z b = entry_below _ _ _ b
 
 module _ (r : Record) (ok : Fit r) where
@@ -85,7 +85,7 @@ module _ (r : Record) (ok : Fit r) where
 
   -- two places of one brick with one item number are one place
   pub place_inj : (p q : Place) → Inside r p → Inside r q → brick_of r p ≡ brick_of r q → item_no r p ≡ item_no r q → p ≡ q
-  unfolding item_no brick_of entry_in_lem
+  unfolding item_no brick_of entry_in
   place_inj p q hp hq b e =
       let s0 : ℕ = side_of r.description 0 in
       let s1 : ℕ = side_of r.description 1 in

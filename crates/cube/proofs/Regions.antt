@@ -27,7 +27,7 @@ use Rattle.table.specs.declared.Kind.TheVariants.{Missing, Constant, Stored}
 use Rattle.opening.proofs.Rules.{none_found}
 use Rattle.cube.specs.declared.Region.{Region}
 use Rattle.cube.specs.Places.{Place, item_bytes, kind_in, brick_of, Inside, Extent}
-use Rattle.cube.specs.Regions.{start_of, run_of, place, size_of, place_at_lem, run_inside_lem, in_extent, touches, unless_touched, is_stored, not_stored, region_verdict, raw_verdict, float_verdict, write_verdict}
+use Rattle.cube.specs.Regions.{start_of, run_of, place, size_of, place_at, run_inside, in_extent, touches, unless_touched, is_stored, not_stored, region_verdict, raw_verdict, float_verdict, write_verdict}
 use Rattle.cube.proofs.Valid.{headers, entries, brick_length, Lent}
 use Rattle.cube.proofs.Places.{brick-lt, inside}
 
@@ -42,7 +42,7 @@ digits_in g t h =
     ((div-lt_iff_lt-mul p1).1 l, mod-lt (t / run_of g 2) p1, mod-lt t p2)
 
 -- and the place that is i, j, k past it is the one with this number
-pub place_at_lem : (g : Region) (i j k : ℕ) → j < run_of g 1 → k < run_of g 2 → place_at_lem g (tri (run_of g 1) (run_of g 2) i j k) ≡ place g i j k
+pub place_at_lem : (g : Region) (i j k : ℕ) → j < run_of g 1 → k < run_of g 2 → place_at g (tri (run_of g 1) (run_of g 2) i j k) ≡ place g i j k
 place_at_lem g i j k hj hk =
     rw (digits_div (i * run_of g 1 + j) hk, digits_mod (i * run_of g 1 + j) hk, digits_div i hj, digits_mod i hj)
 
@@ -80,7 +80,7 @@ module _ (r : Record) where
     pub run1 : (1 ≤ run_of g 1) × (start_of g 1 + run_of g 1 ≤ extent_along r.description g.level 1)
     pub run2 : (1 ≤ run_of g 2) × (start_of g 2 + run_of g 2 ≤ extent_along r.description g.level 2)
 
-  run_inside_lem : (g : Region) (i : ℕ) → run_inside_lem r g i ≡ true → (1 ≤ run_of g i) × (start_of g i + run_of g i ≤ extent_along r.description g.level i)
+  run_inside_lem : (g : Region) (i : ℕ) → run_inside r g i ≡ true → (1 ≤ run_of g i) × (start_of g i + run_of g i ≤ extent_along r.description g.level i)
   run_inside_lem g i e =
       let h = both (leb 1 (run_of g i)) _ e in
       (leb-true _ _ h.0, leb-true _ _ h.1)
@@ -88,8 +88,8 @@ module _ (r : Record) where
   pub within : (g : Region) → Fit r → leb r.levels g.level ≡ false → in_extent r g ≡ true → Within g
   unfolding in_extent
   within g ok x y =
-      let t = both (run_inside_lem r g 0 && run_inside_lem r g 1) (run_inside_lem r g 2) y in
-      let u = both (run_inside_lem r g 0) (run_inside_lem r g 1) t.0 in
+      let t = both (run_inside r g 0 && run_inside r g 1) (run_inside r g 2) y in
+      let u = both (run_inside r g 0) (run_inside r g 1) t.0 in
       record {
         level = omega (arith, leb-false r.levels g.level x, ok.levels-is);
         run0 = run_inside_lem g 0 u.0;
@@ -110,7 +110,7 @@ module _ (r : Record) where
       any-is _ (size_of g) (tri (run_of g 1) (run_of g 2) i j k) (tri-lt (run_of g 0) (run_of g 1) (run_of g 2) i j k hi hj hk)
       (eq-eqb _ _ (ap (brick_of r) (place_at_lem g i j k hj hk)))
 
-  pub touches_at : (g : Region) (e : ℕ) → touches r g e ≡ true → (t : ℕ) × (t < size_of g) × (brick_of r (place_at_lem g t) ≡ e)
+  pub touches_at : (g : Region) (e : ℕ) → touches r g e ≡ true → (t : ℕ) × (t < size_of g) × (brick_of r (place_at g t) ≡ e)
   unfolding touches
   touches_at g e h = let a = any_at _ (size_of g) h in (a.0, a.1, eqb-true _ _ a.2)
 

@@ -13,7 +13,7 @@ use Rattle.table.specs.declared.Kind.{Kind}
 use Rattle.table.specs.declared.Kind.TheVariants.{Missing, Constant, Stored}
 use Rattle.cube.specs.declared.Region.{Region}
 use Rattle.cube.specs.Places.{Place, Row, item_bytes, kind_in, brick_of, byte_of, row_in, rows_of, missing_brick, raw_of, float_of, reading_of, Inside}
-use Rattle.cube.specs.Regions.{run_of, place, size_of, place_at_lem, chunk, raw_rows, float_rows}
+use Rattle.cube.specs.Regions.{run_of, place, size_of, place_at, chunk, raw_rows, float_rows}
 use Rattle.endian.proofs.Cats.{cat-same, cat-cat, cat_part, length-cat}
 use Rattle.endian.proofs.Puts.{length-lows, length-peek}
 use Rattle.cube.proofs.Valid.{Valid}
@@ -29,7 +29,7 @@ one_part l a x e =
 
 -- the places of a region one after the other: three loops, one inside the other
 pub by_place : {A : Type 0} (g : Region) (h : Place → List A)
-    → cat (run_of g 0) (λ i. cat (run_of g 1) (λ j. cat (run_of g 2) (λ k. h (place g i j k)))) ≡ cat (size_of g) (λ t. h (place_at_lem g t))
+    → cat (run_of g 0) (λ i. cat (run_of g 1) (λ j. cat (run_of g 2) (λ k. h (place g i j k)))) ≡ cat (size_of g) (λ t. h (place_at g t))
 by_place g h =
     cat-cat (run_of g 0) (run_of g 1) (λ i j. cat (run_of g 2) (λ k. h (place g i j k)))
     ∙ cat-cat (run_of g 0 * run_of g 1) (run_of g 2) (λ t k. h (place g (t / run_of g 1) (t % run_of g 1) k))
@@ -42,7 +42,7 @@ module _ (r : Record) where
 
   -- what holds of every place of a region
   abbrev pub AtAll : Region → (Place → Type 0) → Type 0
-  AtAll g P = (t : ℕ) → t < size_of g → P (place_at_lem g t)
+  AtAll g P = (t : ℕ) → t < size_of g → P (place_at g t)
 
   -- a read looks at the readings of its region's rows alone
   module _ (g : Region) (row row' : Place → Row) (same : AtAll g (λ p. reading_of r (row p) ≡ reading_of r (row' p))) where
@@ -78,11 +78,11 @@ module _ (r : Record) where
 
   -- the t-th item of a read
   pub raw-item : (g : Region) (row : Place → Row) → AtAll g (λ p. length (raw_of r (row p)) ≡ item_bytes r)
-      → (t : ℕ) → t < size_of g → chunk (item_bytes r) (raw_rows r row g) t ≡ raw_of r (row (place_at_lem g t))
+      → (t : ℕ) → t < size_of g → chunk (item_bytes r) (raw_rows r row g) t ≡ raw_of r (row (place_at g t))
   unfolding raw_rows
   raw-item g row h t l = cat_part (size_of g) (item_bytes r) t _ h l
 
-  pub float_item : (g : Region) (row : Place → Row) (t : ℕ) → t < size_of g → get_or (float_rows r row g) t nan ≡ float_of r (row (place_at_lem g t))
+  pub float_item : (g : Region) (row : Place → Row) (t : ℕ) → t < size_of g → get_or (float_rows r row g) t nan ≡ float_of r (row (place_at g t))
   unfolding float_rows
   float_item g row t l = one_part _ t _ (cat_part (size_of g) 1 t _ (λ s k. refl) l)
 
@@ -91,7 +91,7 @@ module _ (r : Record) where
     pub passed_width : AtAll g (λ p. length (raw_of r (rows_of r f p)) ≡ item_bytes r)
     passed_width t l =
         let d = digits_in g t l in
-        row_width f (place_at_lem g t) (λ o e. le_trans (item-fits r h.lent.fit o (place_at_lem g t)) (touched_fits r f g room need h _ _ _ d.0 d.1 d.2 o e).1)
+        row_width f (place_at g t) (λ o e. le_trans (item-fits r h.lent.fit o (place_at g t)) (touched_fits r f g room need h _ _ _ d.0 d.1 d.2 o e).1)
 
     pub passed_length : length (raw_rows r (rows_of r f) g) ≡ size_of g * item_bytes r
     passed_length = raw-length g (rows_of r f) passed_width

@@ -19,7 +19,7 @@ use Rattle.table.specs.declared.Kind.TheVariants.{Missing, Constant, Stored}
 use Rattle.cube.specs.declared.Region.{Region}
 use Rattle.cube.specs.Places.{Place, Row, item_bytes, kind_in, brick_of, item_no, byte_of, row_in, rows_of, missing_brick, raw_of, float_of}
 use Rattle.table.specs.Entries.{offset_in}
-use Rattle.cube.specs.Regions.{start_of, place, chunk, place_byte_lem, store}
+use Rattle.cube.specs.Regions.{start_of, place, chunk, place_byte, store}
 use Rattle.endian.proofs.Cats.{cat-same, cat-peek}
 use Rattle.endian.proofs.Puts.{length-peek, put-put}
 use Rattle.cube.proofs.Valid.{headers, entries}
@@ -97,7 +97,7 @@ module _ (r : Record) (f : List ℕ) (g : Region) (i j k o : ℕ) (at : kind_in 
   pub run_write : (m : ℕ) → (start_of g 2 + k) % side_of r.description 2 + m ≤ side_of r.description 2
       → byte_of r o (place g i j k) + m * item_bytes r ≤ length f → (t + m) * item_bytes r ≤ length d
       → up m (λ n h. store r h (place g i j (k + n)) (chunk (item_bytes r) d (t + n))) f ≡ put f (byte_of r o (place g i j k)) (peek d (t * item_bytes r) (m * item_bytes r))
-  unfolding up store place_byte_lem
+  unfolding up store place_byte
   run_write zero fits high room = rw (zero-mul, add-zero) (sym (take-append-drop (byte_of r o (place g i j k)) f))
   run_write (suc m) fits high room =
       let w : ℕ = item_bytes r in

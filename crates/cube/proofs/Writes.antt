@@ -24,7 +24,7 @@ use Rattle.table.proofs.Tables.{names_same}
 use Rattle.cube.specs.declared.Region.{Region}
 use Rattle.cube.specs.Places.{Place, Row, bytes, item_bytes, kind_in, brick_of, byte_of, row_in, rows_of, Inside}
 use Rattle.table.specs.Entries.{offset_in}
-use Rattle.cube.specs.Regions.{start_of, run_of, place, size_of, place_at_lem, between, has, index, chunk, place_byte_lem, store, written}
+use Rattle.cube.specs.Regions.{start_of, run_of, place, size_of, place_at, between, has, index, chunk, place_byte, store, written}
 use Rattle.endian.proofs.Cats.{up_rule}
 use Rattle.endian.proofs.Puts.{put-length, peek-put-same, take_put, peek-put_before, peek-put-after, front_byte, length-peek}
 use Rattle.cube.proofs.Valid.{headers, entries, Lent, Valid}
@@ -82,7 +82,7 @@ module _ (g : Region) where
   index-lt p h = tri-lt (run_of g 0) (run_of g 1) (run_of g 2) (p.i - start_of g 0) (p.j - start_of g 1) (p.k - start_of g 2) (omega arith) (omega arith) (omega arith)
 
   -- a region's places are told apart by their index
-  index_inj : (p : Place) (t : ℕ) → In g p → t < size_of g → index g p ≡ t → p ≡ place_at_lem g t
+  index_inj : (p : Place) (t : ℕ) → In g p → t < size_of g → index g p ≡ t → p ≡ place_at g t
   unfolding index
   index_inj p t h l e =
       let n1 : ℕ = run_of g 1 in
@@ -94,10 +94,10 @@ module _ (g : Region) where
       place_path (sym h.level) (omega arith) (omega arith) (omega arith)
 
   -- the t-th place is one of them, with the index t
-  pub has_at : (t : ℕ) → t < size_of g → has g (place_at_lem g t) ≡ true
+  pub has_at : (t : ℕ) → t < size_of g → has g (place_at g t) ≡ true
   has_at t l = let d = digits_in g t l in has-place _ _ _ d.0 d.1 d.2
 
-  pub index_at : (t : ℕ) → index g (place_at_lem g t) ≡ t
+  pub index_at : (t : ℕ) → index g (place_at g t) ≡ t
   index_at t = index-place _ _ _ ∙ rw (div-add-mod' (t / run_of g 2) (run_of g 1), div-add-mod' t (run_of g 2))
 
 ltb_step : (x t : ℕ) → x ≢ t → ltb x (suc t) ≡ ltb x t
@@ -157,7 +157,7 @@ module _ (r : Record) where
 
   module _ (ok : Fit r) (f : List ℕ) (q : Place) (at : Held r f q) (b : List ℕ) (full : length b ≡ item_bytes r) where
     pub store_at : store r f q b ≡ put f (byte_of r at.offset q) b
-    unfolding store place_byte_lem
+    unfolding store place_byte
     store_at = ap (λ (κ : Kind). put f (byte_of r (offset_in κ) q) b) at.at_offset
 
     fits : byte_of r at.offset q + length b ≤ length f
@@ -203,18 +203,18 @@ module _ (r : Record) where
 
   -- the rule of a region's write: what holds of the first t places' bytes holds of one place more
   pub written_rule : (g : Region) (d f : List ℕ) (P : ℕ → List ℕ → Type 0) → P 0 f
-      → ((t : ℕ) (h : List ℕ) → t < size_of g → P t h → P (suc t) (store r h (place_at_lem g t) (chunk (item_bytes r) d t))) → P (size_of g) (written r g d f)
+      → ((t : ℕ) (h : List ℕ) → t < size_of g → P t h → P (suc t) (store r h (place_at g t) (chunk (item_bytes r) d t))) → P (size_of g) (written r g d f)
   unfolding written
   written_rule g d f P z step = up_rule P (size_of g) _ f z step
 
   module _ (ok : Fit r) (f : List ℕ) (g : Region) (d : List ℕ) (room : size_of g * item_bytes r ≤ length d) (cov : Covered r f g) where
     -- the t-th place, in a file with the headers of f
-    pub held_at : (h : List ℕ) → Kept f h → (t : ℕ) → t < size_of g → Held r h (place_at_lem g t)
-    held_at h K t l = let x = digits_in g t l in kept_held f h K ok (place_at_lem g t) (cov _ _ _ x.0 x.1 x.2)
+    pub held_at : (h : List ℕ) → Kept f h → (t : ℕ) → t < size_of g → Held r h (place_at g t)
+    held_at h K t l = let x = digits_in g t l in kept_held f h K ok (place_at g t) (cov _ _ _ x.0 x.1 x.2)
 
     -- each store of the write keeps the headers
-    pub step_kept : (t : ℕ) (h : List ℕ) → t < size_of g → Kept f h → Kept f (store r h (place_at_lem g t) (chunk (item_bytes r) d t))
-    step_kept t h l K = kept_trans f h _ K (store_kept ok h (place_at_lem g t) (held_at h K t l) _ (chunk_full g d room t l))
+    pub step_kept : (t : ℕ) (h : List ℕ) → t < size_of g → Kept f h → Kept f (store r h (place_at g t) (chunk (item_bytes r) d t))
+    step_kept t h l K = kept_trans f h _ K (store_kept ok h (place_at g t) (held_at h K t l) _ (chunk_full g d room t l))
 
     -- and so does the write
     pub written-kept : Kept f (written r g d f)
@@ -241,11 +241,11 @@ module _ (r : Record) where
         go p true = rw (le-ltb (index g p) 0 (omega arith))
 
     module _ (t : ℕ) (l : t < size_of g) where
-      upto_same : upto (suc t) (place_at_lem g t) ≡ bytes (chunk (item_bytes r) d t)
+      upto_same : upto (suc t) (place_at g t) ≡ bytes (chunk (item_bytes r) d t)
       unfolding upto
       upto_same = rw (has_at g t l, index_at g t, lt-ltb t (suc t) (le_refl (suc t)))
 
-      upto_other : (p : Place) → p ≢ place_at_lem g t → upto (suc t) p ≡ upto t p
+      upto_other : (p : Place) → p ≢ place_at g t → upto (suc t) p ≡ upto t p
       unfolding upto
       upto_other p ne = go (has g p) refl
         where
@@ -255,19 +255,19 @@ module _ (r : Record) where
           go false e = refl
           go true e = rw (ltb_step (index g p) t (λ s. ne (index_inj g p t (has-true g p e) l s)))
 
-      advance : (h : List ℕ) → Holds t h → Holds (suc t) (store r h (place_at_lem g t) (chunk (item_bytes r) d t))
-      advance h H = record { kept = step_kept ok f g d room cov t h l H.kept; rows = λ p hp. go p hp (place_dec p (place_at_lem g t)) }
+      advance : (h : List ℕ) → Holds t h → Holds (suc t) (store r h (place_at g t) (chunk (item_bytes r) d t))
+      advance h H = record { kept = step_kept ok f g d room cov t h l H.kept; rows = λ p hp. go p hp (place_dec p (place_at g t)) }
         where
           b : List ℕ
           b = chunk (item_bytes r) d t
 
-          here : Held r h (place_at_lem g t)
+          here : Held r h (place_at g t)
           here = held_at ok f g d room cov h H.kept t l
 
-          go : (p : Place) → Inside r p → Dec (p ≡ place_at_lem g t) → rows_of r (store r h (place_at_lem g t) b) p ≡ upto (suc t) p
+          go : (p : Place) → Inside r p → Dec (p ≡ place_at g t) → rows_of r (store r h (place_at g t) b) p ≡ upto (suc t) p
           go p hp (yes e) =
-              ap (rows_of r (store r h (place_at_lem g t) b)) e ∙ store_same ok h (place_at_lem g t) here b (chunk_full g d room t l) ∙ sym upto_same ∙ ap (upto (suc t)) (sym e)
-          go p hp (no n) = store_other ok h (place_at_lem g t) here b (chunk_full g d room t l) (kept_valid f h H.kept v) p hp n ∙ H.rows p hp ∙ sym (upto_other p n)
+              ap (rows_of r (store r h (place_at g t) b)) e ∙ store_same ok h (place_at g t) here b (chunk_full g d room t l) ∙ sym upto_same ∙ ap (upto (suc t)) (sym e)
+          go p hp (no n) = store_other ok h (place_at g t) here b (chunk_full g d room t l) (kept_valid f h H.kept v) p hp n ∙ H.rows p hp ∙ sym (upto_other p n)
 
     all-written : Holds (size_of g) (written r g d f)
     all-written = written_rule g d f Holds begin (λ t h l H. advance t l h H)

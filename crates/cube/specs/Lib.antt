@@ -1,7 +1,5 @@
 -- The definitions that the calls on an opened cube are stated in.
 pub mod Places
 pub mod Regions
-pub mod Log
-pub mod Edits
 pub mod Calls
 pub mod Written

@@ -51,7 +51,7 @@ pub fn u64_at(s: &[u8], at: usize) -> u64
 }
 
 // Byte by byte: runs below 4 bytes, and the load and the store of a piece.
-pub fn copy_bytes(out: &mut [u8], src: &[u8])
+fn copy_bytes(out: &mut [u8], src: &[u8])
     requires { length src.now ≡ length out.old }
     ensures { out.new ≡ src.now }
 {

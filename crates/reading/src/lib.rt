@@ -325,7 +325,7 @@ fn read_bricks(out: &mut [u8], file: &[u8], r: Record, g: Region, q: Lattice)
 }
 
 // A region that its checks took: its bytes into the front of the buffer, whose tail stays. It answers how many they are.
-pub fn read_region(out: &mut [u8], file: &[u8], r: Record, g: Region) -> usize
+fn read_region(out: &mut [u8], file: &[u8], r: Record, g: Region) -> usize
     requires { raw_verdict r file.now g (length out.old) ≡ Taken }
     ensures count { result ≡ size_of g * item_bytes r }
     ensures buffer { out.new ≡ over (raw_rows r (rows_of r file.now) g) out.old }

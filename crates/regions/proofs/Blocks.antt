@@ -29,7 +29,7 @@ use Rattle.table.specs.declared.Kind.{Kind}
 use Rattle.table.specs.declared.Table.{Table}
 use Rattle.runs.specs.Runs.{level_in}
 use Rattle.cube.specs.declared.Region.{Region}
-use Rattle.cube.specs.Places.{entry_in_lem, kind_in}
+use Rattle.cube.specs.Places.{entry_in, kind_in}
 use Rattle.cube.specs.Regions.{start_of, run_of, is_stored, not_stored}
 use Rattle.cube.proofs.Regions.{Within, within}
 use Rattle.regions.specs.declared.Along.{Along}
@@ -75,8 +75,8 @@ module _ (r : Record) (g : Region) where
   abbrev z₀ : ℕ
   z₀ = start_of g 2 / side_of r.description 2
 
-  entry_step_lem : (x y z : ℕ) → entry_in_lem r g.level (x₀ + x) (y₀ + y) (z₀ + z) ≡ (block_of r g).first + z * (block_of r g).layer + y * (block_of r g).row + x
-  unfolding entry_in_lem block_of
+  entry_step_lem : (x y z : ℕ) → entry_in r g.level (x₀ + x) (y₀ + y) (z₀ + z) ≡ (block_of r g).first + z * (block_of r g).layer + y * (block_of r g).row + x
+  unfolding entry_in block_of
   entry_step_lem x y z = omega (arith, entry_is (count_of r.description 0) (count_of r.description 1) (count_of r.description 2) g.level (x₀ + x) (y₀ + y) (z₀ + z), entry_is (count_of r.description 0) (count_of r.description 1) (count_of r.description 2) g.level x₀ y₀ z₀, tri_step (bricks_along r.description g.level 1) (bricks_along r.description g.level 0) z₀ y₀ x₀ x y z)
 
   -- the block's entries are those that the region touches
@@ -99,8 +99,8 @@ module _ (r : Record) (g : Region) where
   block_brick x y z p hx hy hz = brick_in r g (fit_of r g p) (within_of r g p) x y z hx hy hz
 
   block_entry : (x y z : ℕ) → Passed r g → x < (block_of r g).inline → y < (block_of r g).crossline → z < (block_of r g).vertical
-      → entry_in_lem r g.level (x₀ + x) (y₀ + y) (z₀ + z) < bricks_of r.description
-  unfolding entry_in_lem bricks_of
+      → entry_in r g.level (x₀ + x) (y₀ + y) (z₀ + z) < bricks_of r.description
+  unfolding entry_in bricks_of
   block_entry x y z p hx hy hz = entry_below _ _ _ (block_brick x y z p hx hy hz)
 
   row_below : (y z : ℕ) → Passed r g → y < (block_of r g).crossline → z < (block_of r g).vertical
@@ -144,7 +144,7 @@ pub record BlockParts (r : Record) (g : Region) (v : Level) (x y z : Along) : Ty
 
 module _ {r : Record} {g : Region} {v : Level} {x y z : Along} (e : BlockParts r g v x y z) where
   first_made : entry_at v x.first y.first z.first ≡ (block_of r g).first
-  unfolding block_of entry_in_lem
+  unfolding block_of entry_in
   first_made =
       rw (e.level, e.inline, e.crossline, e.vertical) (sym (entry_is _ _ _ g.level (x₀ r g) (y₀ r g) (z₀ r g)))
 

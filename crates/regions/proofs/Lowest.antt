@@ -17,7 +17,7 @@ use Rattle.record.specs.Record.{side_of, levels_of}
 use Rattle.record.specs.declared.Record.{Record}
 use Rattle.checks.proofs.Records.{Fit}
 use Rattle.cube.specs.declared.Region.{Region}
-use Rattle.cube.specs.Places.{entry_in_lem, brick_of}
+use Rattle.cube.specs.Places.{entry_in, brick_of}
 use Rattle.cube.specs.Regions.{start_of, run_of, place, touches}
 use Rattle.cube.proofs.Valid.{entries}
 use Rattle.cube.proofs.Places.{BrickIn, sides, cover, inside, brick-lt}
@@ -123,7 +123,7 @@ span_below s a c x n h l p e =
 module _ (r : Record) (g : Region) where
   -- the entry of the brick that is x, y, z past the first
   abbrev pub past : ℕ → ℕ → ℕ → ℕ
-  past x y z = entry_in_lem r g.level (start_of g 0 / side_of r.description 0 + x) (start_of g 1 / side_of r.description 1 + y) (start_of g 2 / side_of r.description 2 + z)
+  past x y z = entry_in r g.level (start_of g 0 / side_of r.description 0 + x) (start_of g 1 / side_of r.description 1 + y) (start_of g 2 / side_of r.description 2 + z)
 
   -- the entries of all bricks that the region's runs touch
   unfoldable pub touched : List ℕ
@@ -158,7 +158,7 @@ module _ (r : Record) (ok : Fit r) (g : Region) (w : Within r g) where
   z1 = (start_of g 2 + run_of g 2 - 1) / side_of r.description 2 - start_of g 2 / side_of r.description 2
 
   past_ascends : (x y z x' y' z' : ℕ) → x < suc x1 → y < suc y1 → z < suc z1 → x' < suc x1 → y' < suc y1 → z' < suc z1 → Before x y z x' y' z' → past r g x y z < past r g x' y' z'
-  unfolding entry_in_lem
+  unfolding entry_in
   past_ascends x y z x' y' z' hx hy hz hx' hy' hz' b = entry_ascends _ _ _ (brick_in r g ok w x y z hx hy hz) (brick_in r g ok w x' y' z' hx' hy' hz') (shift b)
     where
       shift : Before x y z x' y' z'

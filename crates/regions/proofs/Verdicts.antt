@@ -1,13 +1,12 @@
 -- The verdict on a region, check by check, from what the functions answered. Assumes nothing.
-use mathlib.Core.Bool.{Bool, true, false, ◌&&◌}
+use mathlib.Core.Bool.{Bool, true, false, cond}
 use mathlib.Core.List.{List}
 use mathlib.Core.Path.{◌≡◌, sym, ap, ◌∙◌}
-use Prim.Native.Nat.{ℕ, ◌<◌}
+use Prim.Native.Nat.{ℕ, ◌≤◌, ◌<◌}
 use native.Mathlib.Nat.{le_refl}
 use native.Mathlib.Omega.{arith}
 use lib.ListN.{length}
 use borrow.Author.Tests.{lt-ltb, le-ltb}
-use Rattle.endian.specs.Loops.{first}
 use Rattle.record.specs.Answers.{refused_at}
 use Rattle.record.specs.declared.Record.{Record}
 use Rattle.record.specs.declared.Verdict.{Verdict}
@@ -20,16 +19,20 @@ use Rattle.cube.specs.Regions.{in_extent, touches, unless_touched, not_stored}
 use Rattle.cube.proofs.Valid.{entries}
 use Rattle.regions.specs.declared.Found.{Found}
 use Rattle.regions.specs.declared.Found.TheVariants.{At, Nothing}
-use Rattle.table.specs.Entries.{table_in, Readable}
+use Rattle.table.specs.Entries.{table_in, breaks12, Readable}
 use Rattle.table.specs.declared.Table.{Table}
 use Rattle.table.proofs.Tables.{fits_derived, derived_readable}
 use Rattle.regions.specs.declared.Block.{Block}
-use Rattle.regions.specs.Search.{find, found_of, fails, entries_in, Below, block_of, Passed, rest, fails_in}
+use Rattle.regions.specs.Search.{find, found_of, fails, entries_in, Below, block_of, Passed, rest}
 use Rattle.regions.proofs.Finds.{find_agree, found_at, found_nothing}
 use Rattle.regions.proofs.Lowest.{touched, lowest-found, lowest-none}
 use Rattle.regions.proofs.Blocks.{fit_of, within_of, block_touched, block_below, fails-is}
 
 -- ---- checks 12 and 19
+
+-- what check 19 or check 12 is to find
+abbrev bad : Record → List ℕ → Bool → ℕ → Bool
+bad r f stored e = cond stored (not_stored r f e) (breaks12 r f e)
 
 pub search_readable : (r : Record) (g : Region) → Passed r g → (n : ℕ) → r.length ≡ n → Readable (table_in r) n
 search_readable r g p n e = derived_readable r (fits_derived r p.fitting) n (omega (arith, (fit_of r g p).long, (fit_of r g p).header_is))
@@ -40,29 +43,22 @@ module _ (r : Record) (g : Region) (p : Passed r g) (t : Table) (b : Block) (et 
   search_below = rw (et, eb) (block_below r g p)
 
   module _ (f : List ℕ) (stored : Bool) (answer : Found) (q : answer ≡ found_of (find (fails stored t f) (entries_in b))) where
-    searched : answer ≡ found_of (find (fails_in stored r f) (touched r g))
+    searched : answer ≡ found_of (find (bad r f stored) (touched r g))
     searched =
         q
         ∙ rw (et, eb)
-        (ap found_of (find_agree (fails stored (table_in r) f) (fails_in stored r f) (fails-is r f stored) (entries_in (block_of r g)) ∙ ap (find (fails_in stored r f)) (block_touched r g)))
-
-    -- the entry that was found is the lowest that is touched and fails; where none was, there is none
-    pub lowest_at : (e : ℕ) → answer ≡ At e → e ≡ first (λ x. touches r g x && fails_in stored r f x) (entries r)
-    lowest_at e found = sym (lowest-found r (fit_of r g p) g (within_of r g p) (fails_in stored r f) e (found_at _ e (sym searched ∙ found))).0
-
-    pub lowest_past : answer ≡ Nothing → r.bricks ≡ first (λ x. touches r g x && fails_in stored r f x) (entries r)
-    lowest_past found = (fit_of r g p).bricks-is ∙ sym (lowest-none r (fit_of r g p) g (within_of r g p) (fails_in stored r f) (found_nothing _ (sym searched ∙ found)))
+        (ap found_of (find_agree (fails stored (table_in r) f) (bad r f stored) (fails-is r f stored) (entries_in (block_of r g)) ∙ ap (find (bad r f stored)) (block_touched r g)))
 
     -- a refusal with the entry that was found
-    pub refused_at_lem : (n e : ℕ) (later : Verdict) → answer ≡ At e → refused_at n e ≡ unless_touched r n (touches r g) (fails_in stored r f) later
+    pub refused_at_lem : (n e : ℕ) (later : Verdict) → answer ≡ At e → refused_at n e ≡ unless_touched r n (touches r g) (bad r f stored) later
     refused_at_lem n e later found =
-        let l = lowest-found r (fit_of r g p) g (within_of r g p) (fails_in stored r f) e (found_at _ e (sym searched ∙ found)) in
+        let l = lowest-found r (fit_of r g p) g (within_of r g p) (bad r f stored) e (found_at _ e (sym searched ∙ found)) in
         rw (l.0, lt-ltb e (entries r) l.1)
 
     -- or the later checks
-    pub passed_on : (n : ℕ) (later : Verdict) → answer ≡ Nothing → later ≡ unless_touched r n (touches r g) (fails_in stored r f) later
+    pub passed_on : (n : ℕ) (later : Verdict) → answer ≡ Nothing → later ≡ unless_touched r n (touches r g) (bad r f stored) later
     passed_on n later found =
-        rw (lowest-none r (fit_of r g p) g (within_of r g p) (fails_in stored r f) (found_nothing _ (sym searched ∙ found)), le-ltb (entries r) (entries r) (le_refl (entries r)))
+        rw (lowest-none r (fit_of r g p) g (within_of r g p) (bad r f stored) (found_nothing _ (sym searched ∙ found)), le-ltb (entries r) (entries r) (le_refl (entries r)))
 
 pub rest_read : (write : Bool) (r : Record) (f : List ℕ) (g : Region) → write ≡ false → Taken ≡ rest write r f g
 rest_read write r f g e = rw e

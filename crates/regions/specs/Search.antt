@@ -8,10 +8,10 @@ use Rattle.record.specs.declared.Record.{Record}
 use Rattle.record.specs.declared.Verdict.{Verdict}
 use Rattle.record.specs.declared.Verdict.TheVariants.{Taken}
 use Rattle.checks.specs.Fits.{record_fits}
-use Rattle.table.specs.Entries.{kind_at, outside_at, breaks12}
+use Rattle.table.specs.Entries.{kind_at, outside_at}
 use Rattle.table.specs.declared.Table.{Table}
 use Rattle.cube.specs.declared.Region.{Region}
-use Rattle.cube.specs.Places.{entry_in_lem}
+use Rattle.cube.specs.Places.{entry_in}
 use Rattle.cube.specs.Regions.{start_of, run_of, in_extent, touches, unless_touched, is_stored, not_stored}
 use Rattle.regions.specs.declared.Found.{Found}
 use Rattle.regions.specs.declared.Found.TheVariants.{At, Nothing}
@@ -68,7 +68,7 @@ along_of s a c = record { first = a / s; span = span s a c }
 -- the entries that a region touches
 unfoldable pub block_of : Record → Region → Block
 block_of r g = record {
-  first = entry_in_lem r g.level (start_of g 0 / side_of r.description 0) (start_of g 1 / side_of r.description 1) (start_of g 2 / side_of r.description 2);
+  first = entry_in r g.level (start_of g 0 / side_of r.description 0) (start_of g 1 / side_of r.description 1) (start_of g 2 / side_of r.description 2);
   inline = span (side_of r.description 0) (start_of g 0) (run_of g 0);
   crossline = span (side_of r.description 1) (start_of g 1) (run_of g 1);
   vertical = span (side_of r.description 2) (start_of g 2) (run_of g 2);
@@ -85,7 +85,3 @@ pub record Passed (r : Record) (g : Region) : Type 0 where
 -- what is judged after check 12: check 19 for a write, nothing for a read
 abbrev pub rest : Bool → Record → List ℕ → Region → Verdict
 rest write r f g = cond write (unless_touched r 19 (touches r g) (not_stored r f) Taken) Taken
-
--- entry e of a record's table fails: check 19, or check 12
-abbrev pub fails_in : Bool → Record → List ℕ → ℕ → Bool
-fails_in stored r f e = cond stored (not_stored r f e) (breaks12 r f e)

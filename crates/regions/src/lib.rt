@@ -1,15 +1,14 @@
 // The checks of a call on a region, in the order of FORMAT 10.1: 14, 15, 16, 18, 12 over the touched entries, then 19 for writes.
 // All are done before a byte moves. Their cost grows with the bricks that the region touches, never with the cube.
 ghost use Rattle.std.specs.Prelude.{◌≡◌, true, ◌&&◌, ◌+◌, ◌*◌, ◌≤◌, ◌<◌, leb, length};
-ghost use Rattle.endian.specs.Loops.{first};
 ghost use Rattle.geometry.specs.Limits.{size_limit, level_cap};
 ghost use Rattle.geometry.specs.Geometry.{extent};
-ghost use Rattle.record.specs.Record.{bricks_of};
 ghost use Rattle.runs.specs.Runs.{Allowed};
 ghost use Rattle.checks.specs.Checks.{side_ok};
+ghost use Rattle.checks.specs.Fits.{record_fits};
 ghost use Rattle.table.specs.Entries.{breaks12, Readable};
 ghost use Rattle.cube.specs.Regions.{size_of, in_extent, touches, unless_touched, is_stored, region_verdict, raw_verdict, float_verdict, write_verdict};
-ghost use Rattle.regions.specs.Search.{find, found_of, fails, row_from, layer_from, entries_in, LayerBelow, Below, along_of, block_of, Passed, rest, fails_in};
+ghost use Rattle.regions.specs.Search.{find, found_of, fails, row_from, layer_from, entries_in, LayerBelow, Below, along_of, block_of, Passed, rest};
 
 use checks::check14_with;
 use cube::Region;
@@ -59,7 +58,7 @@ fn run_inside(start: u32, count: u32, size: u32, level: u32) -> bool
 }
 
 // The region lies in its level.
-pub fn in_extent(r: Record, g: Region) -> bool
+fn in_extent(r: Record, g: Region) -> bool
     requires { Allowed r g }
     ensures { result ≡ in_extent r g }
 {
@@ -81,7 +80,7 @@ fn room_for(a: u32, b: u32, c: u32, item: u32) -> u64
 }
 
 // The room that a region takes.
-pub fn needed(r: Record, g: Region, item: u32) -> u64
+fn needed(r: Record, g: Region, item: u32) -> u64
     requires { Passed r g × (item ≤ 4) }
     ensures { result ≡ size_of g * item }
 {
@@ -192,20 +191,6 @@ fn search(file: &[u8], t: Table, b: Block, stored: bool) -> Found
         z += 1;
     }
     Found::Nothing
-}
-
-// The lowest entry that a region touches and that fails check 19, or check 12; the brick count where none does.
-pub fn lowest_touched(file: &[u8], r: Record, g: Region, stored: bool) -> u32
-    requires { Passed r g × (r.length ≡ length file.now) }
-    ensures { result ≡ first (λ x. touches r g x && fails_in stored r file.now x) (bricks_of r.description) }
-{
-    let t = table_in(r);
-    let b = block_of(r, g);
-    let found = search(file, t, b, stored);
-    match found {
-        Found::At(entry) => entry,
-        Found::Nothing => r.bricks,
-    }
 }
 
 // Checks 12 and, for a write, 19 over the touched entries.

@@ -23,7 +23,7 @@ use Rattle.table.specs.declared.Table.{Table}
 use Rattle.table.proofs.Tables.{fits_derived, count-is, readable, kind_is}
 use Rattle.cube.specs.declared.Region.{Region}
 use Rattle.cube.specs.declared.MissingBrick.{MissingBrick}
-use Rattle.cube.specs.Places.{item_bytes, kind_in, entry_in_lem, brick_of, item_no, Inside, missing_brick}
+use Rattle.cube.specs.Places.{item_bytes, kind_in, entry_in, brick_of, item_no, Inside, missing_brick}
 use Rattle.cube.specs.Regions.{start_of, run_of, place}
 use Rattle.cube.proofs.Places.{brick_of_lem, brick-lt, item-lt}
 use Rattle.runs.specs.declared.Lattice.{Lattice}
@@ -68,7 +68,7 @@ module _ (r : Record) (g : Region) (i j k : ℕ) where
   -- its entry, by the lattice
   entry_on : entry_at (lattice_of r g).level (((lattice_of r g).start0 + i) / (lattice_of r g).side0) (((lattice_of r g).start1 + j) / (lattice_of r g).side1) (((lattice_of r g).start2 + k) / (lattice_of r g).side2)
       ≡ brick_of r (place g i j k)
-  unfolding lattice_of brick_of entry_in_lem
+  unfolding lattice_of brick_of entry_in
   entry_on = sym (entry_is (count_of r.description 0) (count_of r.description 1) (count_of r.description 2) g.level _ _ _)
 
   module _ (ok : Fit r) (h : Inside r (place g i j k)) where

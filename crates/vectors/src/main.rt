@@ -4,7 +4,6 @@ mod answers;
 mod buffers;
 mod fields;
 mod lines;
-mod logs;
 
 ghost use Rattle.std.specs.Prelude.{◌+◌, ◌≤◌, length};
 ghost use Rattle.io.specs.Counts.{IsPrefixLen};
@@ -17,19 +16,16 @@ use buffers::{HELD, put, within};
 use endian::u32_at;
 use fields::with_field;
 use lines::{end_line, say, say_number, say_opened, say_refusal};
-use logs::{say_edit, say_edits, say_logged, say_undo};
 use opening::open;
 use record::{Record, Verdict};
 
-// What the calls of a list share: the record, how many bytes of the file are lent, the room of the buffers, the seed, and how
-// many bytes of the log are lent.
+// What the calls of a list share: the record, how many bytes of the file are lent, the room of the buffers, the seed.
 #[derive(Drop)]
 struct Setting {
     record: Record,
     lent: usize,
     room: usize,
     seed: u64,
-    lent_log: usize,
 }
 
 // Which call, and its arguments.
@@ -124,30 +120,6 @@ fn say_name(which: u32) -> usize {
             say(b"strings");
             0
         }
-        17 => {
-            say(b"logged");
-            7
-        }
-        18 => {
-            say(b"undo");
-            1
-        }
-        19 => {
-            say(b"edits");
-            0
-        }
-        20 => {
-            say(b"edit");
-            1
-        }
-        21 => {
-            say(b"lendlog");
-            1
-        }
-        22 => {
-            say(b"putlog");
-            3
-        }
         _ => {
             say(b"field");
             4
@@ -213,7 +185,6 @@ fn set(s: Setting, c: Call) -> Setting {
         11 => t.room = words[0] as usize,
         12 => t.seed = words[0] as u64,
         14 => t.lent = words[0] as usize,
-        21 => t.lent_log = words[0] as usize,
         _ => {
             let r = with_field(s.record, words[0], words[1], words[2], words[3]);
             t.record = r;
@@ -231,36 +202,6 @@ fn write_to(held: &mut [u8], s: Setting, words: [u32; 7]) {
         s.room,
         s.seed,
     );
-}
-
-// A write that logs.
-fn log_to(held: &mut [u8], log: &mut [u8], s: Setting, words: [u32; 7]) {
-    let lent = within(s.lent, held);
-    let lent_log = within(s.lent_log, log);
-    say_logged(
-        &mut held[..lent],
-        &mut log[..lent_log],
-        s.record,
-        region_of(words),
-        s.room,
-        s.seed,
-    );
-}
-
-fn take_back(held: &mut [u8], log: &mut [u8], s: Setting, n: u32) {
-    let lent = within(s.lent, held);
-    let lent_log = within(s.lent_log, log);
-    say_undo(&mut held[..lent], &mut log[..lent_log], s.record, n);
-}
-
-fn count_edits(log: &[u8], s: Setting) {
-    let lent_log = within(s.lent_log, log);
-    say_edits(&log[..lent_log], s.record);
-}
-
-fn ask_edit(log: &[u8], s: Setting, i: u32) {
-    let lent_log = within(s.lent_log, log);
-    say_edit(&log[..lent_log], s.record, i);
 }
 
 fn answer_lent(held: &[u8], s: Setting, c: Call) {
@@ -282,7 +223,7 @@ fn open_lent(held: &[u8], s: Setting) -> Setting {
 }
 
 // One call: its line, and the settings after it.
-fn step(held: &mut [u8], log: &mut [u8], s: Setting, c: Call) -> Setting {
+fn step(held: &mut [u8], s: Setting, c: Call) -> Setting {
     let which = c.which;
     let words = c.words;
     let count = say_name(which);
@@ -312,31 +253,6 @@ fn step(held: &mut [u8], log: &mut [u8], s: Setting, c: Call) -> Setting {
             put(held, words[0], words[1], words[2]);
             s
         }
-        17 => {
-            say(b":");
-            log_to(held, log, s, words);
-            s
-        }
-        18 => {
-            say(b":");
-            take_back(held, log, s, words[0]);
-            s
-        }
-        19 => {
-            say(b":");
-            count_edits(log, s);
-            s
-        }
-        20 => {
-            say(b":");
-            ask_edit(log, s, words[0]);
-            s
-        }
-        22 => {
-            end_line();
-            put(log, words[0], words[1], words[2]);
-            s
-        }
         _ => {
             end_line();
             set(s, c)
@@ -345,19 +261,18 @@ fn step(held: &mut [u8], log: &mut [u8], s: Setting, c: Call) -> Setting {
 }
 
 // All calls of a list on a cube that opened.
-fn run_calls(held: &mut [u8], log: &mut [u8], calls: &[u8], first: Setting) {
+fn run_calls(held: &mut [u8], calls: &[u8], first: Setting) {
     let count = calls.len() / 32;
     let mut s = first;
     let mut i = 0;
     while i < count {
-        s = step(held, log, s, call_at(calls, 32 * i));
+        s = step(held, s, call_at(calls, 32 * i));
         i += 1;
     }
 }
 
-// A cube of so many bytes, at the start of what is held, and an empty log.
+// A cube of so many bytes, at the start of what is held.
 fn run_cube(held: &mut [u8], length: usize, calls: &[u8]) {
-    let mut log = [0u8; HELD];
     let lent = within(length, held);
     let opened = open(&held[..lent]);
     let verdict = opened.verdict;
@@ -373,14 +288,12 @@ fn run_cube(held: &mut [u8], length: usize, calls: &[u8]) {
             let r = opened.cube;
             run_calls(
                 held,
-                &mut log,
                 calls,
                 Setting {
                     record: r,
                     lent,
                     room: 2048,
                     seed: 1,
-                    lent_log: 2048,
                 },
             );
         }

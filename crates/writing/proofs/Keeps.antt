@@ -11,7 +11,7 @@ use Rattle.record.specs.declared.Verdict.TheVariants.{Taken}
 use Rattle.checks.proofs.Records.{Fit}
 use Rattle.cube.specs.declared.Region.{Region}
 use Rattle.cube.specs.Places.{item_bytes, brick_of}
-use Rattle.cube.specs.Regions.{run_of, place, size_of, place_at_lem, chunk, store, written, write_verdict}
+use Rattle.cube.specs.Regions.{run_of, place, size_of, place_at, chunk, store, written, write_verdict}
 use Rattle.endian.proofs.Cats.{up_rule, up_same, up_up}
 use Rattle.cube.proofs.Places.{brick-lt}
 use Rattle.cube.proofs.Regions.{place_at_lem, Covered, write_passed}
@@ -74,4 +74,4 @@ all_planes r g d f =
     let n2 : ℕ = run_of g 2 in
     up_up (run_of g 0) n1 (run_to r g d) f
     ∙ up_up (run_of g 0 * n1) n2 (λ t. sample_to r g d (t / n1) (t % n1)) f
-    ∙ up_same (size_of g) _ _ f (λ t l x. ap (λ (n : ℕ). store r x (place_at_lem g t) (chunk (item_bytes r) d n)) (rw (div-add-mod' (t / n2) n1, div-add-mod' t n2)))
+    ∙ up_same (size_of g) _ _ f (λ t l x. ap (λ (n : ℕ). store r x (place_at g t) (chunk (item_bytes r) d n)) (rw (div-add-mod' (t / n2) n1, div-add-mod' t n2)))

@@ -127,7 +127,7 @@ fn write_planes(
 }
 
 // A region that its checks took. It answers how many bytes were stored.
-pub fn write_region(file: &mut [u8], input: &[u8], r: Record, g: Region) -> usize
+fn write_region(file: &mut [u8], input: &[u8], r: Record, g: Region) -> usize
     requires { write_verdict r file.old g (length input.now) ≡ Taken }
     ensures count { result ≡ size_of g * item_bytes r }
     ensures cube { file.new ≡ written r g input.now file.old }

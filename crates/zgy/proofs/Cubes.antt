@@ -1,7 +1,8 @@
 -- Demand 2. Assumes nothing.
-use mathlib.Core.List.{List, [], ◌∷◌}
-use mathlib.Core.Path.{◌≡◌, refl, sym, ap, ◌∙◌}
-use Prim.Native.Nat.{ℕ, zero, suc, ◌+◌, ◌-◌, ◌*◌, ◌≤◌}
+use mathlib.Core.List.{List, [], ◌∷◌, ◌++◌}
+use mathlib.Core.Path.{◌≡◌, refl, sym, ap, ap₂, ◌∙◌}
+use Prim.Native.Nat.{ℕ, zero, suc, ◌+◌, ◌-◌, ◌*◌, ◌/◌, ◌%◌, ◌^◌, ◌≤◌, ◌<◌}
+use native.Mathlib.Nat.{le_trans}
 use native.Mathlib.Omega.{arith}
 use lib.Ieee.{Float, nan}
 use lib.ListN.{get_or, length, drop, replicate, length-append, length-drop, get_or-append}
@@ -16,21 +17,15 @@ use Rattle.table.proofs.Tables.{names_missing, names_zero, names_constant, names
 use Rattle.opening.specs.Opening.{record_in}
 use Rattle.opening.proofs.Rules.{opens_exactly, record_passes}
 use Rattle.cube.specs.declared.Region.{Region}
-use Rattle.cube.specs.Places.{Place, Row, bytes, item_bytes, brick_of, byte_of, row_in, rows_of}
-use Rattle.cube.specs.Regions.{size_of, chunk, raw_rows, float_rows, over}
-use Rattle.cube.specs.Log.{region_bytes, appended}
+use Rattle.cube.specs.Places.{Place, Row, bytes, item_bytes, brick_of, byte_of, row_in, rows_of, raw_of, float_of}
+use Rattle.cube.specs.Regions.{size_of, raw_rows, float_rows, over}
 use Rattle.cube.specs.Calls.{raw, floats}
-use Rattle.cube.proofs.Calls.{taken-raw, taken_float, taken-log}
-use Rattle.cube.proofs.Regions.{raw_passed, float_passed, write_passed}
+use Rattle.cube.proofs.Calls.{taken-raw, taken_float}
+use Rattle.cube.proofs.Regions.{raw_passed, float_passed}
 use Rattle.cube.proofs.Rows.{passed_width, passed_length, raw-item, float_item, float_length}
-use Rattle.log.specs.Facts.{Room}
-use Rattle.log.proofs.Formed.{formed}
-use Rattle.log.proofs.Appended.{sound, more_of}
-use Rattle.log.proofs.Back.{one_more}
 use Rattle.making.proofs.Bytes.{lows_mod}
 use Rattle.making.proofs.Opens.{made_opens}
-use Rattle.logging.proofs.Saving.{logged-fits}
-use Rattle.zgy.specs.Cubes.{entry_word, RulesPut, ReadsGive, OpensReadsAndMakes}
+use Rattle.zgy.specs.Cubes.{entry_word, RulesPut, RawGives, FloatGives, ReadsGive, OpensReadsAndMakes}
 
 lows-zero : (n : ℕ) → lows n 0 ≡ replicate n 0
 unfolding lows
@@ -94,32 +89,10 @@ module _ (r : Record) (f : List ℕ) where
           each = λ t l. get_or-append s (drop (length s) b) nan t (omega arith) ∙ float_item r g (rows_of r f) t l;
           after = λ x l. over-after s b (omega (arith, h.enough)) x nan (omega arith);
         });
-    log-gives = λ d l b bytes words e q.
-        let p = logged-fits r f l g (length d) e in
-        let h = (write_passed r f g (length d) p.0).0 in
-        let a = p.1 in
-        let s : List ℕ = raw_rows r (rows_of r f) g in
-        let n : length s ≡ region_bytes r g = passed_length r f g _ _ h in
-        let o : Room l (length s) = rw n a.1 in
-        let m = more_of l g s (sound r l bytes a.0) o in
-        let k = one_more r l (sound r l bytes a.0) (formed r l a.0) g words s n o in
-        let is : b ≡ appended l g s = log_inj (q ∙ taken-log r f g d l e) in
-        rw is
-        (record {
-          room = m.same_length;
-          count = m.one_edit;
-          region = k.region;
-          each = λ t x. ap (λ (y : List ℕ). chunk (item_bytes r) y t) k.its_bytes ∙ raw-item r g (rows_of r f) (passed_width r f g _ _ h) t x;
-          others = k.others;
-          after = k.free_same;
-        });
   }
     where
       raw_inj : {x y : List ℕ} → raw x ∷ [] ≡ raw y ∷ [] → x ≡ y
       raw_inj e = cc
-
-      log_inj : {a c x y : List ℕ} → raw a ∷ raw x ∷ [] ≡ raw c ∷ raw y ∷ [] → x ≡ y
-      log_inj e = cc
 
       float_inj : {x y : List Float} → floats x ∷ [] ≡ floats y ∷ [] → x ≡ y
       float_inj e = cc

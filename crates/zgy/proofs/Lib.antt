@@ -2,7 +2,6 @@
 pub mod Steps
 pub mod Open
 pub mod Whole
-pub mod TakenBack
 pub mod Worked
 pub mod Refusals
 pub mod Cubes

@@ -29,15 +29,12 @@ use Rattle.opening.specs.Opening.{length_verdict, text_verdict, range_verdict, o
 use Rattle.cube.specs.declared.Region.{Region}
 use Rattle.cube.specs.Places.{item_bytes, kind_in}
 use Rattle.cube.specs.Regions.{touches, not_stored, in_extent, region_verdict, raw_verdict, float_verdict, write_verdict}
-use Rattle.cube.specs.Log.{edit_count, region_bytes, well_formed, has_room}
-use Rattle.cube.specs.Edits.{last_touch, append_verdict, logged_verdict, undo_verdict, log_verdict, edit_verdict}
-use Rattle.cube.specs.Calls.{Call, raw_read, float_read_lem, write, logged_write, undo, lent, verdict_on, moves, answer_of}
+use Rattle.cube.specs.Calls.{Call, raw_read, float_read, write, lent, verdict_on, moves, answer_of}
 use Rattle.cube.proofs.Calls.{refused-cube, refused-buffers}
 use Rattle.bricks.specs.Bricks.{found_of, found_verdict, kind_verdict, kind_answer, fill_of, filled_with, room_verdict, value_verdict, filler_verdict, shown_verdict, view_verdict}
 use Rattle.bricks.specs.declared.Brick.{Brick}
 use Rattle.positions.specs.Positions.{orig_in, inc_in, located_verdict, refused_by, position_answer}
 use Rattle.positions.specs.declared.Located.{Located}
-use Rattle.logging.specs.Asking.{edits_answer, edit_answer}
 use Rattle.strings.specs.Strings.{strings_verdict}
 use Rattle.strings.proofs.Parts.{turn_verdict_lem}
 use Rattle.making.specs.Making.{made_length, made_file, make_verdict, make_answer, buffer_if, make_buffer}
@@ -46,7 +43,7 @@ use Rattle.subtiles.specs.Subtiles.{breaks20}
 use Rattle.subtiles.specs.Answers as Answers
 use Rattle.subtiles.specs.Answers.{bytes_in, breaks18, permute_answer, buffer_after}
 use Rattle.zgy.specs.Ledger.{Event, CallOn}
-use Rattle.zgy.specs.Refusals.{one_of, may_be, numbers_of_lem, RefusedByNumber, RefusedLeaves, EveryCallRefusesByNumber}
+use Rattle.zgy.specs.Refusals.{one_of, may_be, numbers_of, RefusedByNumber, RefusedLeaves, EveryCallRefusesByNumber}
 
 -- a check, then the later ones
 by_check : (ks : List ℕ) (b : Bool) (v later : Verdict) → may_be ks v ≡ true → may_be ks later ≡ true → may_be ks (cond b v later) ≡ true
@@ -116,42 +113,18 @@ verdict_found : (v : Verdict) (b : Brick) → found_verdict (found_of v b) ≡ v
 verdict_found Taken b = refl
 verdict_found (Refused x) b = refl
 
-cube_verdict : (r : Record) (f : List ℕ) (c : Call) → may_be (numbers_of_lem c) (verdict_on r f c) ≡ true
-unfolding raw_verdict float_verdict write_verdict logged_verdict append_verdict undo_verdict
-cube_verdict r f (raw_read g b) = let ks : List ℕ = 14 ∷ 15 ∷ 16 ∷ 18 ∷ 12 ∷ [] in
+region-verdict : (r : Record) (f : List ℕ) (c : Call) → may_be (numbers_of c) (verdict_on r f c) ≡ true
+unfolding raw_verdict float_verdict write_verdict
+region-verdict r f (raw_read g b) = let ks : List ℕ = 14 ∷ 15 ∷ 16 ∷ 18 ∷ 12 ∷ [] in
     region ks r f g _ _ Taken (may ks 14 0 refl) (may ks 15 0 refl) (may ks 16 0 refl) (may ks 18 0 refl) (λ e. may ks 12 e refl) (may_take ks)
-cube_verdict r f (float_read_lem g b) = let ks : List ℕ = 14 ∷ 15 ∷ 16 ∷ 18 ∷ 12 ∷ [] in
+region-verdict r f (float_read g b) = let ks : List ℕ = 14 ∷ 15 ∷ 16 ∷ 18 ∷ 12 ∷ [] in
     region ks r f g _ _ Taken (may ks 14 0 refl) (may ks 15 0 refl) (may ks 16 0 refl) (may ks 18 0 refl) (λ e. may ks 12 e refl) (may_take ks)
-cube_verdict r f (write g d) = let ks : List ℕ = 14 ∷ 15 ∷ 16 ∷ 18 ∷ 12 ∷ 19 ∷ [] in
+region-verdict r f (write g d) = let ks : List ℕ = 14 ∷ 15 ∷ 16 ∷ 18 ∷ 12 ∷ 19 ∷ [] in
     region ks r f g _ _ _ (may ks 14 0 refl) (may ks 15 0 refl) (may ks 16 0 refl) (may ks 18 0 refl) (λ e. may ks 12 e refl) (by-found ks 19 (λ e. touches r g e && not_stored r f e) (bricks_of r.description) Taken (λ e. may ks 19 e refl) (may_take ks))
-cube_verdict r f (logged_write g d l) = let ks : List ℕ = 14 ∷ 15 ∷ 16 ∷ 18 ∷ 12 ∷ 19 ∷ 22 ∷ 23 ∷ [] in
-    by_then ks (write_verdict r f g (length d)) (append_verdict r l (region_bytes r g))
-    (region ks r f g _ _ _ (may ks 14 0 refl) (may ks 15 0 refl) (may ks 16 0 refl) (may ks 18 0 refl) (λ e. may ks 12 e refl) (by-found ks 19 (λ e. touches r g e && not_stored r f e) (bricks_of r.description) Taken (λ e. may ks 19 e refl) (may_take ks)))
-    (by_check ks (not (well_formed r l)) _ _ (may ks 22 0 refl) (by_check ks (not (has_room l (region_bytes r g))) (refused 23) Taken (may ks 23 0 refl) (may_take ks)))
-cube_verdict r f (undo n l) = let ks : List ℕ = 14 ∷ 22 ∷ 24 ∷ 12 ∷ 19 ∷ [] in
-    by_check ks (breaks14_with r (length f)) _ _ (may ks 14 0 refl)
-    (by_check ks (not (well_formed r l)) _ _ (may ks 22 0 refl)
-    (by_check ks (ltb (edit_count l) n) _ _ (may ks 24 0 refl)
-    (by-found ks 12 (λ e. last_touch r l n e && breaks12 r f e) (bricks_of r.description) _ (λ e. may ks 12 e refl)
-    (by-found ks 19 (λ e. last_touch r l n e && not_stored r f e) (bricks_of r.description) Taken (λ e. may ks 19 e refl) (may_take ks)))))
 
 kind : (ks : List ℕ) (r : Record) (f : List ℕ) (e : ℕ) → may_be ks (refused 14) ≡ true → may_be ks (refused 16) ≡ true → may_be ks (refused_at 12 e) ≡ true → may_be ks (kind_verdict r f e) ≡ true
 unfolding kind_verdict
 kind ks r f e a b c = by_check ks (breaks14_with r (length f)) _ _ a (by_check ks (leb r.bricks e) _ _ b (by_check ks (breaks12 r f e) _ _ c (may_take ks)))
-
--- the questions to a log
-by-log : (ks : List ℕ) (r : Record) (l : List ℕ) → may_be ks (refused 14) ≡ true → may_be ks (refused 22) ≡ true → may_be ks (log_verdict r l) ≡ true
-unfolding log_verdict
-by-log ks r l a b = by_check ks (breaks14 r) _ _ a (by_check ks (not (well_formed r l)) (refused 22) Taken b (may_take ks))
-
-log_edits : (r : Record) (l : List ℕ) → may_be (14 ∷ 22 ∷ []) (verdict_of (edits_answer r l)) ≡ true
-unfolding edits_answer
-log_edits r l = let ks : List ℕ = 14 ∷ 22 ∷ [] in rw (verdict_done (log_verdict r l) (edit_count l)) (by-log ks r l (may ks 14 0 refl) (may ks 22 0 refl))
-
-log_edit : (r : Record) (l : List ℕ) (n : ℕ) → may_be (14 ∷ 22 ∷ 16 ∷ []) (edit_answer r l n).verdict ≡ true
-unfolding edit_answer edit_verdict
-log_edit r l n = let ks : List ℕ = 14 ∷ 22 ∷ 16 ∷ [] in
-    by_then ks (log_verdict r l) _ (by-log ks r l (may ks 14 0 refl) (may ks 22 0 refl)) (by_check ks (leb (edit_count l) n) (refused 16) Taken (may ks 16 0 refl) (may_take ks))
 
 view : List ℕ
 view = 14 ∷ 16 ∷ 12 ∷ 18 ∷ 17 ∷ []
@@ -206,9 +179,7 @@ numbers = record {
   opening = opening;
   brick_kind = λ r f e. let ks : List ℕ = 14 ∷ 16 ∷ 12 ∷ [] in rw (verdict_found (kind_verdict r f e)) (kind ks r f e (may ks 14 0 refl) (may ks 16 0 refl) (may ks 12 e refl));
   brick_view = λ r f l e. by_then view (kind_verdict r f e) (shown_verdict r (kind_in r f e) l) (kind view r f e (may view 14 0 refl) (may view 16 0 refl) (may view 12 e refl)) (shown r (kind_in r f e) l);
-  log_edits = log_edits;
-  log_edit = log_edit;
-  cube-call = λ r f c. rw (verdict_done (verdict_on r f c) (moves r c)) (cube_verdict r f c);
+  region-call = λ r f c. rw (verdict_done (verdict_on r f c) (moves r c)) (region-verdict r f c);
   position = placing;
   strings = walking;
   turn = λ r f n. rw (turn_verdict_lem r f n) (walking r f);
@@ -222,16 +193,16 @@ by_answer : (a : Done) (x : Refusal) (moved buffer : List ℕ) → verdict_of a 
 by_answer (Done.Taken n) x moved buffer e = let z : ◌≡◌ {A = ℕ} 0 1 = cc in absurd (omega arith)
 by_answer (Done.Refused y) x moved buffer e = refl
 
-cube-call : (r : Record) (f : List ℕ) (e : Event) (x : Refusal) → CallOn r f e → verdict_of e.answer ≡ Refused x → (e.cube ≡ f) × (e.buffers ≡ lent e.call)
+region-call : (r : Record) (f : List ℕ) (e : Event) (x : Refusal) → CallOn r f e → verdict_of e.answer ≡ Refused x → (e.cube ≡ f) × (e.buffers ≡ lent e.call)
 unfolding answer_of
-cube-call r f e x C q =
+region-call r f e x C q =
     let v : verdict_on r f e.call ≡ Refused x = sym (verdict_done (verdict_on r f e.call) (moves r e.call)) ∙ ap verdict_of (sym C.answer-is) ∙ q in
     (C.cube-is ∙ refused-cube r f x e.call v, C.buffers_are ∙ refused-buffers r f x e.call v)
 
 pub leaves : RefusedLeaves
 unfolding make_buffer make_answer
 leaves = record {
-  cube-call = cube-call;
+  region-call = region-call;
   make = λ d text fill buffer x e.
       ap (λ (v : Verdict). buffer_if v (made_file d text fill) buffer) (sym (verdict_done (make_verdict d text fill (length buffer)) _) ∙ e);
   permute = λ side w from into x moved buffer e. by_answer (permute_answer side w from into) x moved buffer e;

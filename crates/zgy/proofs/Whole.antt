@@ -1,6 +1,7 @@
 -- Demand 3, `one-place-one-sample`, and beside it `stays_open`: the statements of specs/Demands.antt. Assumes nothing.
 use Prim.Native.Nat.{ℕ}
 use mathlib.Core.Path.{◌≡◌, refl, ap, ap₂, ◌∙◌}
+use mathlib.Core.Option.{Option, none, some}
 use mathlib.Core.List.{List, [], ◌∷◌, map}
 use Rattle.endian.specs.Bytes.{Bytes}
 use Rattle.record.specs.declared.Record.{Record}
@@ -11,9 +12,9 @@ use Rattle.cube.specs.Calls.{Buffer}
 use Rattle.cube.proofs.Valid.{Valid, valid}
 use Rattle.cube.proofs.Places.{places_apart, past_headers, in_file}
 use Rattle.cube.proofs.Writes.{Kept, kept_refl, kept_trans, kept_kind, kept_valid}
-use Rattle.zgy.specs.Ledger.{Event, last_cube, CallOn, CallsOn, Ledger, opening, puts, leaves, feed, fed, last_put, promises}
+use Rattle.zgy.specs.Ledger.{Event, last_cube, CallOn, CallsOn, Ledger, opening, puts, leaves, feed, fed, later, last_put, promises}
 use Rattle.zgy.specs.Demands.{OnePlace, AfterCalls, OnePlaceOneSample, SameHeaders, StillOpen, StaysOpen}
-use Rattle.zgy.proofs.Steps.{Agrees, items-whole, leaves_later, step_kept, step_agrees, step_gives}
+use Rattle.zgy.proofs.Steps.{Agrees, items-whole, step_kept, step_agrees, step_gives}
 use Rattle.zgy.proofs.Open.{kept-opens, kept_record, in_range, writes}
 
 module _ (r : Record) where
@@ -21,7 +22,11 @@ module _ (r : Record) where
   last-put : (es : List Event) (l : Ledger r) (p : Place) → fed r l es p ≡ leaves r (l p) (last_put r es p)
   unfolding fed feed last_put
   last-put [] l p = refl
-  last-put (e ∷ es) l p = last-put es (feed r l e) p ∙ leaves_later r (l p) (puts r e p) (last_put r es p)
+  last-put (e ∷ es) l p = last-put es (feed r l e) p ∙ go (last_put r es p)
+    where
+      go : (w : Option (List ℕ)) → leaves r (leaves r (l p) (puts r e p)) w ≡ leaves r (l p) (later r w (puts r e p))
+      go none = refl
+      go (some b) = refl
 
   -- ---- the list
 
@@ -65,10 +70,6 @@ module _ (r : Record) where
       kept : Kept r f (last_cube f es)
       kept = list_kept es f (opening r f) C at_opening
 
--- a list of calls leaves a valid cube
-pub list_kept_valid : (r : Record) (f : List ℕ) → Valid r f → (es : List Event) → CallsOn r f es → Valid r (last_cube f es)
-list_kept_valid r f v es C = kept_valid r f (last_cube f es) (kept r f v es C) v
-
 pub one-place-one-sample : OnePlaceOneSample
 unfolding OnePlaceOneSample
 one-place-one-sample f h e =
@@ -81,7 +82,7 @@ stays_open f h e es C =
     let r : Record = record_in f in
     let v : Valid r f = valid f h e in
     let K : Kept r f (last_cube f es) = kept r f v es C in
-    let w : Valid r (last_cube f es) = list_kept_valid r f v es C in
+    let w : Valid r (last_cube f es) = kept_valid r f (last_cube f es) K v in
     record {
       headers = record { same_length = K.same_length; same_header = K.same_header; same_entries = kept_kind r f (last_cube f es) K };
       opens = kept-opens f (last_cube f es) e K;

@@ -1,7 +1,7 @@
--- Demand 3 and edits taken back speak of something: a cube that opens, with a stored, a constant and missing bricks, and calls on it, all computed.
+-- Demand 3 speaks of something: a cube that opens, with a stored, a constant and missing bricks, and calls on it, all computed.
 -- Assumes nothing.
-use Prim.Native.Nat.{ℕ, suc, zero, max, ◌-◌}
-use mathlib.Core.Path.{◌≡◌, refl, ap}
+use Prim.Native.Nat.{ℕ, suc, zero}
+use mathlib.Core.Path.{◌≡◌, refl}
 use mathlib.Core.Bool.{Bool, true, ◌&&◌}
 use mathlib.Core.List.{List, [], ◌∷◌, ◌++◌, map}
 use native.Mathlib.Omega.{arith}
@@ -10,7 +10,7 @@ use lib.Ieee.{Float, binary64, of_bits, to_bits, fits, is_nan, lt, add, sub, mul
 use lib.IntN.{ℤ, pos, neg_ℤ}
 use lib.ListN.{replicate}
 use borrow.Author.Tests.{ltb-true}
-use Rattle.endian.specs.Bytes.{Bytes, le, lows, put}
+use Rattle.endian.specs.Bytes.{Bytes, le, lows}
 use Rattle.endian.specs.Loops.{cat, up, first_from, sum_to}
 use Rattle.geometry.specs.Geometry.{halved, level_base, entry_of}
 use Rattle.floats.specs.Rules.{finite, range_ok, same_bits, scaled_of}
@@ -26,17 +26,12 @@ use Rattle.checks.proofs.Described.{both}
 use Rattle.table.specs.Entries.{kind_of, word_at, kind_at, out_of_range, outside_at, overlap, overlaps_lower, overlaps_at, table_in, kind_in, breaks12, breaks13}
 use Rattle.opening.specs.Opening.{length_verdict, text_verdict, range_verdict, overlap_verdict, entries_verdict, body_verdict, header_verdict, open_verdict, record_in}
 use Rattle.cube.specs.declared.Region.{Region}
-use Rattle.cube.specs.Places.{entry_in_lem, brick_of, item_no, byte_of, rows_of, missing_brick, raw_of, float_of}
-use Rattle.cube.specs.Regions.{raw_rows, float_rows, place_byte_lem, store, written, touches, in_extent, region_verdict, raw_verdict, float_verdict, write_verdict}
-use Rattle.cube.specs.Log.{all_to, heads_pass, bytes_to, log_end, well_formed, has_room, appended, InWords}
-use Rattle.cube.specs.Edits.{written_all, append_verdict, logged_verdict}
-use Rattle.cube.specs.Calls.{Call, raw_read, float_read_lem, write, logged_write, undo, raw, floats, verdict_on, answer_of, cube_after, buffers_after}
-use Rattle.cube.proofs.Calls.{taken-answer, taken-log}
-use Rattle.zgy.specs.Ledger.{Event, taken, last_cube, CallsOn}
-use Rattle.zgy.specs.TakenBack.{LogState, begun, Logs, done, logged, undone, TakenBack, EditsTakenBack}
+use Rattle.cube.specs.Places.{entry_in, brick_of, item_no, byte_of, rows_of, missing_brick, raw_of, float_of}
+use Rattle.cube.specs.Regions.{raw_rows, float_rows, place_byte, store, written, touches, in_extent, region_verdict, raw_verdict, float_verdict, write_verdict}
+use Rattle.cube.specs.Calls.{Call, raw_read, float_read, write, raw, floats, answer_of, cube_after, buffers_after}
+use Rattle.zgy.specs.Ledger.{Event, CallsOn}
 use Rattle.zgy.specs.Demands.{AfterCalls, OnePlaceOneSample}
 use Rattle.zgy.proofs.Whole.{one-place-one-sample}
-use Rattle.zgy.proofs.TakenBack.{edits_taken_back}
 
 -- size (9, 4, 4), side 4, int8 with the range -1280 to 1270, five zero bytes of text. Entries 0 to 2 are of levels 2 and 1. Of level 0,
 -- entry 3 is stored from 2,511 on, where the headers end, entry 4 is constant, and entry 5 is missing
@@ -89,7 +84,7 @@ calls =
     write (box 1) (7 ∷ 9 ∷ [])
     ∷ write (box 2) (1 ∷ 2 ∷ 3 ∷ 4 ∷ [])
     ∷ raw_read (box 6) (replicate 14 1)
-    ∷ float_read_lem (box 6) (replicate 14 (whole (pos 1)))
+    ∷ float_read (box 6) (replicate 14 (whole (pos 1)))
     ∷ []
 
 -- ---- the events that the definitions compute are allowed, so every list of calls can be made
@@ -111,82 +106,10 @@ computed : (map (λ (e : Event). e.answer) (made (record_in cube) cube calls) �
     ∷ (raw (7 ∷ 9 ∷ replicate 8 255 ++ (0 ∷ 0 ∷ 1 ∷ 1 ∷ [])) ∷ [])
     ∷ (floats (whole (pos 70) ∷ whole (pos 90) ∷ replicate 8 (whole (neg_ℤ (pos 10))) ++ (of_bits binary64 0 ∷ of_bits binary64 0 ∷ whole (pos 1) ∷ whole (pos 1) ∷ [])) ∷ [])
     ∷ [])
-unfolding cube box calls made answer_of cube_after written_all buffers_after raw_verdict float_verdict write_verdict region_verdict breaks14_with record_fits numbers_fit grid_fits same_bits fits is_nan to_bits grid_of record_in record_of version_of description_of text_length_of le cat breaks3 side_ok breaks4 breaks5 size_ok breaks6 breaks7 breaks8 breaks9 described coding_of width_of finite range_ok bricks_of halved first_from sum_to of_bits lt levels_of alphas_of header_of table_of brick_bytes_of in_extent touches entry_in_lem brick_of item_no byte_of entry_of level_base kind_in kind_of word_at kind_at out_of_range outside_at table_in breaks12 place_byte_lem written store up raw_rows float_rows rows_of missing_brick raw_of float_of lows decode_of scaled_of add sub mul div of_int
+unfolding cube box calls made answer_of cube_after buffers_after raw_verdict float_verdict write_verdict region_verdict breaks14_with record_fits numbers_fit grid_fits same_bits fits is_nan to_bits grid_of record_in record_of version_of description_of text_length_of le cat breaks3 side_ok breaks4 breaks5 size_ok breaks6 breaks7 breaks8 breaks9 described coding_of width_of finite range_ok bricks_of halved first_from sum_to of_bits lt levels_of alphas_of header_of table_of brick_bytes_of in_extent touches entry_in brick_of item_no byte_of entry_of level_base kind_in kind_of word_at kind_at out_of_range outside_at table_in breaks12 place_byte written store up raw_rows float_rows rows_of missing_brick raw_of float_of lows decode_of scaled_of add sub mul div of_int
 computed = (refl, refl)
 
 -- so what demand 3 says of such a list holds of these calls
 said : AfterCalls (record_in cube) cube (made (record_in cube) cube calls)
 unfolding OnePlaceOneSample
 said = (one-place-one-sample cube cube-bytes opens).1 (made (record_in cube) cube calls) (made_calls (record_in cube) calls cube)
-
--- ---- a logged write, and its edit taken back
-
--- an empty log with room for one edit of two bytes, and two bytes more
-log : List ℕ
-log = replicate 40 0
-
-log-bytes : Bytes log
-unfolding log bytes_only
-log-bytes = only_bytes log refl
-
-log-whole : well_formed (record_in cube) log ≡ true
-unfolding log well_formed heads_pass bytes_to all_to sum_to le
-log-whole = refl
-
-logging : Call
-logging = logged_write (box 1) (7 ∷ 9 ∷ []) log
-
-logged-taken : verdict_on (record_in cube) cube logging ≡ verdict.Taken
-unfolding cube box logging log logged_verdict append_verdict well_formed has_room heads_pass bytes_to all_to write_verdict region_verdict breaks14_with record_fits numbers_fit grid_fits same_bits fits is_nan to_bits grid_of record_in record_of version_of description_of text_length_of le cat breaks3 side_ok breaks4 breaks5 size_ok breaks6 breaks7 breaks8 breaks9 described coding_of width_of finite range_ok bricks_of halved first_from sum_to of_bits lt levels_of alphas_of header_of table_of brick_bytes_of in_extent touches entry_in_lem brick_of entry_of level_base kind_in kind_of word_at kind_at out_of_range outside_at table_in breaks12
-logged-taken = refl
-
-box_words : InWords (box 1)
-unfolding box
-box_words =
-    record {
-      level-fits = omega arith;
-      start_fits = record { is-three = refl; first = omega arith; second = omega arith; third = omega arith };
-      count_fits = record { is-three = refl; first = omega arith; second = omega arith; third = omega arith };
-    }
-
--- the log with it
-log1 : List ℕ
-log1 = appended log (box 1) (raw_rows (record_in cube) (rows_of (record_in cube) cube) (box 1))
-
-abbrev state1 : LogState
-state1 = record { added = 1; log = log1; furthest = max (log_end log) (log_end log1) }
-
--- a list of calls that begins with it
-begins : (cs : List Call) (s : LogState) → Logs state1 (made (record_in cube) (cube_after (record_in cube) cube logging) cs) s
-    → Logs (begun log) (made (record_in cube) cube (logging ∷ cs)) s
-unfolding made logging log1
-begins cs s rest =
-    logged (box 1) (7 ∷ 9 ∷ []) box_words refl
-    (ap taken (taken-answer (record_in cube) cube logging logged-taken))
-    (taken-log (record_in cube) cube (box 1) (7 ∷ 9 ∷ []) log logged-taken)
-    rest
-
--- what edits taken back says of a list of calls
-of_list_lem : (cs : List Call) (s : LogState) → Logs (begun log) (made (record_in cube) cube cs) s
-    → TakenBack (record_in cube) cube log (last_cube cube (made (record_in cube) cube cs)) s
-unfolding EditsTakenBack
-of_list_lem cs s = edits_taken_back cube cube-bytes opens log log-bytes log-whole (made (record_in cube) cube cs) (made_calls (record_in cube) cs cube) s
-
--- it is a list of one taken logged write, so undoing one edit is taken and gives the cube back
-back : TakenBack (record_in cube) cube log (cube_after (record_in cube) cube logging) state1
-unfolding made
-back = of_list_lem (logging ∷ []) state1 (begins [] state1 done)
-
--- with that undo it is a list after which no edit stands
-undoing : Call
-undoing = undo 1 log1
-
-state0 : LogState
-state0 = record { added = 0; log = put log (log_end log) (replicate (state1.furthest - log_end log) 0); furthest = state1.furthest }
-
-all_back : TakenBack (record_in cube) cube log (cube_after (record_in cube) (cube_after (record_in cube) cube logging) undoing) state0
-unfolding made undoing state0
-all_back =
-    of_list_lem (logging ∷ undoing ∷ []) state0
-    (begins (undoing ∷ []) state0
-    (undone 1 (omega arith) refl (ap taken (taken-answer (record_in cube) (cube_after (record_in cube) cube logging) undoing back.undo-taken)) back.log_back done))

@@ -14,7 +14,7 @@ use Rattle.record.specs.declared.Verdict.TheVariants.{Taken}
 use Rattle.checks.specs.Checks.{breaks2, breaks3, side_ok, breaks4, breaks5, size_ok, breaks6, breaks7, breaks8, breaks9, zeros, breaks11, described}
 use Rattle.table.specs.Entries.{kind_of, word_at, kind_at, out_of_range, outside_at, overlap, overlaps_lower, overlaps_at, table_in, breaks12, breaks13}
 use Rattle.opening.specs.Opening.{header_verdict, length_verdict, text_verdict, range_verdict, overlap_verdict, entries_verdict, body_verdict, record_in, open_verdict}
-use Rattle.cube.specs.Places.{entry_in_lem, brick_of, item_no, byte_of}
+use Rattle.cube.specs.Places.{entry_in, brick_of, item_no, byte_of}
 use Rattle.zgy.specs.Worked.{one_record, one_brick, WorkedNumbers}
 
 below : open_verdict (one_brick (2431 - 1) 64) ≡ refused_at 12 0
@@ -30,7 +30,7 @@ unfolding one_brick lows open_verdict header_verdict body_verdict length_verdict
 short = refl
 
 pub worked : WorkedNumbers
-unfolding one_record record_of first_from sum_to halved level_base entry_of levels_of bricks_of alphas_of brick_bytes_of header_of width_of entry_in_lem brick_of item_no byte_of kind_of coding_of value_of integer_of
+unfolding one_record record_of first_from sum_to halved level_base entry_of levels_of bricks_of alphas_of brick_bytes_of header_of width_of entry_in brick_of item_no byte_of kind_of coding_of value_of integer_of
 worked = record {
   case1 = refl;
   case2 = refl;

@@ -1,5 +1,4 @@
--- Demand 2 (FORMAT 12.2): a cube opens exactly when the rules say so; a region read gives exactly the samples that the rules put there, and so does the log of a
--- logged write; a cube that we make opens again.
+-- Demand 2 (FORMAT 12.2): a cube opens exactly when the rules say so; a region read gives exactly the samples that the rules put there; a cube that we make opens again.
 use Rattle.std.specs.Prelude.{List, [], ◌∷◌, ◌≡◌, ℕ, ◌+◌, ◌*◌, ◌^◌, ◌≤◌, ◌<◌, Float, get_or, length, replicate}
 use Rattle.std.specs.Float.{nan}
 use Rattle.endian.specs.Bytes.{Bytes, peek, le, lows}
@@ -10,9 +9,8 @@ use Rattle.opening.specs.Opening.{open_verdict, record_in}
 use Rattle.opening.specs.Cube.{OpensExactly, RecordPasses}
 use Rattle.cube.specs.declared.Region.{Region}
 use Rattle.cube.specs.Places.{Place, item_bytes, brick_of, item_no, rows_of, raw_of, float_of, missing, bytes}
-use Rattle.cube.specs.Regions.{size_of, place_at_lem, chunk}
-use Rattle.cube.specs.Log.{edit_count, log_end, head_of, edit_bytes, InWords}
-use Rattle.cube.specs.Calls.{raw_read, float_read_lem, logged_write, raw, floats, verdict_on, buffers_after}
+use Rattle.cube.specs.Regions.{size_of, place_at, chunk}
+use Rattle.cube.specs.Calls.{raw_read, float_read, raw, floats, verdict_on, buffers_after}
 use Rattle.making.specs.MadeOpens.{MadeOpens}
 
 -- the word of a place's entry: the number in the eight bytes of its brick's entry
@@ -32,30 +30,18 @@ pub record RulesPut (r : Record) (f : List ℕ) (p : Place) : Type 0 where
 -- the buffer b' after a taken raw read of g into b: the samples first to last, each what the rules put at its place, and every byte after them as it was
 pub record RawGives (r : Record) (f : List ℕ) (g : Region) (b b' : List ℕ) : Type 0 where
   pub room : length b' ≡ length b
-  pub each : (t : ℕ) → t < size_of g → chunk (item_bytes r) b' t ≡ raw_of r (rows_of r f (place_at_lem g t))
+  pub each : (t : ℕ) → t < size_of g → chunk (item_bytes r) b' t ≡ raw_of r (rows_of r f (place_at g t))
   pub after : (x : ℕ) → size_of g * item_bytes r ≤ x → get_or b' x 0 ≡ get_or b x 0
 
 -- the same of a float read
 pub record FloatGives (r : Record) (f : List ℕ) (g : Region) (b b' : List Float) : Type 0 where
   pub room : length b' ≡ length b
-  pub each : (t : ℕ) → t < size_of g → get_or b' t nan ≡ float_of r (rows_of r f (place_at_lem g t))
+  pub each : (t : ℕ) → t < size_of g → get_or b' t nan ≡ float_of r (rows_of r f (place_at g t))
   pub after : (x : ℕ) → size_of g ≤ x → get_or b' x nan ≡ get_or b x nan
-
--- the log b after a taken logged write to g on the log l: one edit more, of the region, with what the rules put at each of its places before the write, first
--- to last; the other edits, and every byte after the log's new end, as they were
-pub record LogGives (r : Record) (f : List ℕ) (g : Region) (l b : List ℕ) : Type 0 where
-  pub room : length b ≡ length l
-  pub count : edit_count b ≡ edit_count l + 1
-  pub region : head_of b (edit_count l) ≡ g
-  pub each : (t : ℕ) → t < size_of g → chunk (item_bytes r) (edit_bytes r b (edit_count l)) t ≡ raw_of r (rows_of r f (place_at_lem g t))
-  pub others : (i : ℕ) → i < edit_count l → (head_of b i ≡ head_of l i) × (edit_bytes r b i ≡ edit_bytes r l i)
-  pub after : (x : ℕ) → log_end b ≤ x → get_or b x 0 ≡ get_or l x 0
 
 pub record ReadsGive (r : Record) (f : List ℕ) (g : Region) : Type 0 where
   pub raw-gives : (b b' : List ℕ) → verdict_on r f (raw_read g b) ≡ Taken → raw b' ∷ [] ≡ buffers_after r f (raw_read g b) → RawGives r f g b b'
-  pub float_gives : (b b' : List Float) → verdict_on r f (float_read_lem g b) ≡ Taken → floats b' ∷ [] ≡ buffers_after r f (float_read_lem g b) → FloatGives r f g b b'
-  pub log-gives : (d l b : List ℕ) → Bytes l → InWords g → verdict_on r f (logged_write g d l) ≡ Taken
-      → raw d ∷ raw b ∷ [] ≡ buffers_after r f (logged_write g d l) → LogGives r f g l b
+  pub float_gives : (b b' : List Float) → verdict_on r f (float_read g b) ≡ Taken → floats b' ∷ [] ≡ buffers_after r f (float_read g b) → FloatGives r f g b b'
 
 -- demand 2
 pub record OpensReadsAndMakes : Type 0 where

@@ -1,5 +1,5 @@
--- Demand 3 (FORMAT 12.3) as one statement about a whole list of calls; and, apart from it, what these calls keep of the file.
-use Rattle.std.specs.Prelude.{List, [], ◌∷◌, map, ◌≢◌, ◌⊎◌, ◌≡◌, ℕ, ◌+◌, ◌≤◌, ◌<◌, length, take}
+-- Demand 3 (FORMAT 12.3) as one statement about a whole list of calls; and, apart from it, what the base's calls keep of the file.
+use Rattle.std.specs.Prelude.{List, map, ◌≢◌, ◌⊎◌, ◌≡◌, ℕ, ◌+◌, ◌≤◌, ◌<◌, length, take}
 use Rattle.endian.specs.Bytes.{Bytes}
 use Rattle.record.specs.Answers.{number_of}
 use Rattle.record.specs.Record.{bricks_of, header_of}
@@ -7,9 +7,9 @@ use Rattle.record.specs.declared.Record.{Record}
 use Rattle.record.specs.declared.Verdict.TheVariants.{Taken}
 use Rattle.table.specs.declared.Kind.TheVariants.{Stored}
 use Rattle.opening.specs.Opening.{open_verdict, record_in}
+use Rattle.cube.specs.declared.Region.{Region}
 use Rattle.cube.specs.Places.{Place, item_bytes, kind_in, brick_of, byte_of, rows_of, raw_of, reading_of, Inside, Extent}
-use Rattle.cube.specs.Edits.{Edit}
-use Rattle.cube.specs.Calls.{Call, verdict_on, writes_of, cube_after}
+use Rattle.cube.specs.Calls.{Call, write, verdict_on, cube_after}
 use Rattle.cube.specs.Written.{WrittenBytes}
 use Rattle.zgy.specs.Ledger.{Event, last_cube, CallOn, CallsOn, opening, fed, promised, promises, last_put, leaves}
 
@@ -47,11 +47,6 @@ pub record SameHeaders (r : Record) (f h : List ℕ) : Type 0 where
   pub same_header : take (header_of r.description r.text) h ≡ take (header_of r.description r.text) f
   pub same_entries : (e : ℕ) → e < bricks_of r.description → kind_in r h e ≡ kind_in r f e
 
--- h is the cube f after edits, one after the other: each changes the bytes of its region's samples alone
-abbrev pub EditedBytes : Record → List ℕ → List Edit → List ℕ → Type 0
-EditedBytes r f [] h = h ≡ f
-EditedBytes r f (e ∷ es) h = (m : List ℕ) × WrittenBytes r f e.region e.bytes m × EditedBytes r m es h
-
 -- what holds of the cube h after a list of calls on the cube f, which opened with record r
 pub record StillOpen (r : Record) (f h : List ℕ) : Type 0 where
   -- no call changed a header byte, an entry or the length
@@ -61,8 +56,8 @@ pub record StillOpen (r : Record) (f h : List ℕ) : Type 0 where
   pub same_record : record_in h ≡ r
   -- no call on it is refused 12
   pub in_range : (c : Call) → number_of (verdict_on r h c) ≢ 12
-  -- a taken call changes the bytes of the samples alone that it writes
-  pub writes : (c : Call) → verdict_on r h c ≡ Taken → EditedBytes r h (writes_of r c) (cube_after r h c)
+  -- a taken write changes the bytes of its region's samples alone
+  pub writes : (g : Region) (d : List ℕ) → verdict_on r h (write g d) ≡ Taken → WrittenBytes r h g d (cube_after r h (write g d))
 
 -- after every list of calls a cube that opening took is still open
 unfoldable pub StaysOpen : Type 0

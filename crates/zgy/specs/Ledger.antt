@@ -1,14 +1,12 @@
 -- Lists of calls on an opened cube, and the ledger of demand 3 (FORMAT 12.4). r is the record that opening gave, f the cube's bytes.
-use Rattle.std.specs.Prelude.{Bool, true, false, cond, List, [], ◌∷◌, ◌≡◌, ℕ, ◌-◌}
+use Rattle.std.specs.Prelude.{Bool, true, false, cond, List, [], ◌∷◌, ◌≡◌, ℕ}
 use Rattle.std.proofs.Math.Option.{Option, none, some}
 use Rattle.record.specs.declared.Record.{Record}
 use Rattle.record.specs.declared.Done.{Done}
 use Rattle.record.specs.declared.Done.TheVariants.{Taken, Refused}
 use Rattle.cube.specs.Places.{Place, Row, bytes, item_bytes, rows_of}
 use Rattle.cube.specs.Regions.{has, index, chunk, raw_rows, float_rows, over}
-use Rattle.cube.specs.Log.{edit_count, appended, dropped}
-use Rattle.cube.specs.Edits.{Edit, kept_bytes}
-use Rattle.cube.specs.Calls.{Call, raw_read, float_read_lem, write, logged_write, undo, Buffer, raw, floats, lent, answer_of, writes_of, cube_after, buffers_after}
+use Rattle.cube.specs.Calls.{Call, raw_read, float_read, write, Buffer, raw, floats, lent, answer_of, cube_after, buffers_after}
 
 -- a call that was made: its arguments, its answer, and the cube and the lent buffers after it
 pub record Event : Type 0 where
@@ -48,24 +46,11 @@ module _ (r : Record) where
   abbrev pub opening : List ℕ → Ledger
   opening f = rows_of r f
 
-  -- the bytes that an edit puts into the row of p, if it has the place: those for that place, in a raw read's order
-  abbrev pub put_by : Edit → Place → Option (List ℕ)
-  put_by e p = cond (has e.region p) (some (chunk (item_bytes r) e.bytes (index e.region p))) none
-
-  -- a later one's, if there are any
-  abbrev pub later : Option (List ℕ) → Option (List ℕ) → Option (List ℕ)
-  later none b = b
-  later (some a) b = some a
-
-  -- the bytes that edits put there, one after the other
-  unfoldable pub put_all : List Edit → Place → Option (List ℕ)
-  put_all [] p = none
-  put_all (e ∷ es) p = later (put_all es p) (put_by e p)
-
-  -- the bytes that a taken call puts into the row of p, if it does: those of the writes that it counts as. A write is one, of the lent bytes; an undo is as
-  -- many as it takes back, newest edit first, of the bytes that the log holds which it is lent; a read is none
+  -- the bytes that a taken call puts into the row of p, if it does: a write those lent for that place, in a raw read's order
   abbrev pub into : Call → Place → Option (List ℕ)
-  into c p = put_all (writes_of r c) p
+  into (raw_read g b) p = none
+  into (float_read g b) p = none
+  into (write g d) p = cond (has g p) (some (chunk (item_bytes r) d (index g p))) none
 
   -- a refused call puts none: of its answer the ledger is told only whether it was taken
   abbrev pub puts : Event → Place → Option (List ℕ)
@@ -85,18 +70,20 @@ module _ (r : Record) where
   fed l (e ∷ es) = fed (feed l e) es
 
   -- the last bytes that a list of calls puts into the row of p, if one does
+  abbrev pub later : Option (List ℕ) → Option (List ℕ) → Option (List ℕ)
+  later none b = b
+  later (some a) b = some a
+
   unfoldable pub last_put : List Event → Place → Option (List ℕ)
   last_put [] p = none
   last_put (e ∷ es) p = later (last_put es p) (puts e p)
 
   -- what the ledger gives for a taken call's buffers: the region's rows in the read's order, as bytes or by the float rules, before the
-  -- buffer's tail as it was lent. To a log a logged write adds the region's rows, as a raw read gives them; an undo drops the edits from its log
+  -- buffer's tail as it was lent
   abbrev pub gives : Ledger → Call → List Buffer
   gives l (raw_read g b) = raw (over (raw_rows r l g) b) ∷ []
-  gives l (float_read_lem g b) = floats (over (float_rows r l g) b) ∷ []
+  gives l (float_read g b) = floats (over (float_rows r l g) b) ∷ []
   gives l (write g d) = raw d ∷ []
-  gives l (logged_write g d log) = raw d ∷ raw (appended log g (raw_rows r l g)) ∷ []
-  gives l (undo n log) = raw (dropped log (edit_count log - n) (kept_bytes r log n)) ∷ []
 
   -- a refused call leaves its buffers
   unfoldable pub promised : Ledger → Event → List Buffer

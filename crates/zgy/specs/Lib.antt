@@ -1,7 +1,6 @@
 -- The promises about opened cubes as a whole.
 pub mod Ledger
 pub mod Demands
-pub mod TakenBack
 pub mod Refusals
 pub mod Cubes
 pub mod Worked

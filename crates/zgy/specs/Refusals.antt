@@ -8,11 +8,10 @@ use Rattle.record.specs.declared.Refusal.{Refusal}
 use Rattle.record.specs.declared.Verdict.{Verdict}
 use Rattle.record.specs.declared.Verdict.TheVariants.{Taken, Refused}
 use Rattle.opening.specs.Opening.{opened_of}
-use Rattle.cube.specs.Calls.{Call, raw_read, float_read_lem, write, logged_write, undo, lent, answer_of}
+use Rattle.cube.specs.Calls.{Call, raw_read, float_read, write, lent, answer_of}
 use Rattle.bricks.specs.Bricks.{found_verdict, kind_answer, view_verdict}
 use Rattle.positions.specs.Positions.{located_verdict, position_answer}
 use Rattle.strings.specs.Strings.{strings_verdict, turn_verdict, turn_in}
-use Rattle.logging.specs.Asking.{edits_answer, edit_answer}
 use Rattle.making.specs.Making.{make_answer, make_buffer}
 use Rattle.making.specs.declared.Fill.{Fill}
 use Rattle.subtiles.specs.Answers.{permute_answer, buffer_after}
@@ -28,32 +27,28 @@ unfoldable pub may_be : List ℕ → Verdict → Bool
 may_be numbers Taken = true
 may_be numbers (Refused x) = one_of x.number numbers && (one_of x.number (12 ∷ 13 ∷ 19 ∷ []) || eqb x.entry 0)
 
--- the numbers that a call on a cube may give, in the order of its checks
+-- the numbers that a call on a region may give, in the order of its checks
 abbrev pub numbers_of : Call → List ℕ
 numbers_of (raw_read g b) = 14 ∷ 15 ∷ 16 ∷ 18 ∷ 12 ∷ []
-numbers_of (float_read_lem g b) = 14 ∷ 15 ∷ 16 ∷ 18 ∷ 12 ∷ []
+numbers_of (float_read g b) = 14 ∷ 15 ∷ 16 ∷ 18 ∷ 12 ∷ []
 numbers_of (write g d) = 14 ∷ 15 ∷ 16 ∷ 18 ∷ 12 ∷ 19 ∷ []
-numbers_of (logged_write g d l) = 14 ∷ 15 ∷ 16 ∷ 18 ∷ 12 ∷ 19 ∷ 22 ∷ 23 ∷ []
-numbers_of (undo n l) = 14 ∷ 22 ∷ 24 ∷ 12 ∷ 19 ∷ []
 
 -- the numbers of the table that each call's answer may give
 pub record RefusedByNumber : Type 0 where
   pub opening : (f : List ℕ) → may_be (1 ∷ 2 ∷ 3 ∷ 4 ∷ 5 ∷ 6 ∷ 7 ∷ 8 ∷ 9 ∷ 10 ∷ 11 ∷ 12 ∷ 13 ∷ []) (opened_of f).verdict ≡ true
   pub brick_kind : (r : Record) (f : List ℕ) (e : ℕ) → may_be (14 ∷ 16 ∷ 12 ∷ []) (found_verdict (kind_answer r f e)) ≡ true
   pub brick_view : (r : Record) (f filler : List ℕ) (e : ℕ) → may_be (14 ∷ 16 ∷ 12 ∷ 18 ∷ 17 ∷ []) (view_verdict r f filler e) ≡ true
-  pub cube-call : (r : Record) (f : List ℕ) (c : Call) → may_be (numbers_of c) (verdict_of (answer_of r f c)) ≡ true
-  pub log_edits : (r : Record) (l : List ℕ) → may_be (14 ∷ 22 ∷ []) (verdict_of (edits_answer r l)) ≡ true
-  pub log_edit : (r : Record) (l : List ℕ) (n : ℕ) → may_be (14 ∷ 22 ∷ 16 ∷ []) (edit_answer r l n).verdict ≡ true
+  pub region-call : (r : Record) (f : List ℕ) (c : Call) → may_be (numbers_of c) (verdict_of (answer_of r f c)) ≡ true
   pub position : (r : Record) (dimension index : ℕ) → may_be (14 ∷ 16 ∷ []) (located_verdict (position_answer r dimension index)) ≡ true
   pub strings : (r : Record) (f : List ℕ) → may_be (14 ∷ 11 ∷ []) (strings_verdict r f) ≡ true
   pub turn : (r : Record) (f : List ℕ) (n : ℕ) → may_be (14 ∷ 11 ∷ []) (turn_verdict (turn_in r f n)) ≡ true
   pub make : (d : Description) (text : List ℕ) (fill : Fill) (n : ℕ) → may_be (4 ∷ 5 ∷ 6 ∷ 7 ∷ 8 ∷ 9 ∷ 11 ∷ 18 ∷ []) (verdict_of (make_answer d text fill n)) ≡ true
   pub permute : (side : List ℕ) (w from into : ℕ) → may_be (20 ∷ 18 ∷ []) (verdict_of (permute_answer side w from into)) ≡ true
 
--- what a refused call leaves: opening, kind, view, position, strings and the questions to a log are lent nothing that they could change
+-- what a refused call leaves: opening, kind, view, position and strings are lent nothing that they could change
 pub record RefusedLeaves : Type 0 where
-  -- a call on a cube leaves it and all its buffers, the log too
-  pub cube-call : (r : Record) (f : List ℕ) (e : Event) (x : Refusal) → CallOn r f e → verdict_of e.answer ≡ Refused x → (e.cube ≡ f) × (e.buffers ≡ lent e.call)
+  -- a region call leaves the cube and its buffers
+  pub region-call : (r : Record) (f : List ℕ) (e : Event) (x : Refusal) → CallOn r f e → verdict_of e.answer ≡ Refused x → (e.cube ≡ f) × (e.buffers ≡ lent e.call)
   pub make : (d : Description) (text : List ℕ) (fill : Fill) (buffer : List ℕ) (x : Refusal)
       → verdict_of (make_answer d text fill (length buffer)) ≡ Refused x → make_buffer d text fill buffer ≡ buffer
   pub permute : (side : List ℕ) (w from into : ℕ) (x : Refusal) (moved buffer : List ℕ)

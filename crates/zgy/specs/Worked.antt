@@ -14,7 +14,7 @@ use Rattle.record.specs.declared.Verdict.TheVariants.{Taken}
 use Rattle.table.specs.Entries.{kind_of}
 use Rattle.table.specs.declared.Kind.TheVariants.{Constant}
 use Rattle.opening.specs.Opening.{open_verdict}
-use Rattle.cube.specs.Places.{Place, entry_in_lem, brick_of, item_no, byte_of}
+use Rattle.cube.specs.Places.{Place, entry_in, brick_of, item_no, byte_of}
 use Rattle.subtiles.specs.Subtiles.{subtiled_of}
 use Rattle.making.specs.Making.{stored_id}
 
@@ -83,10 +83,10 @@ pub record WorkedNumbers : Type 0 where
   -- text 5 there: the end of the headers
   pub case2 : header_of one 5 ≡ 2519
   -- there, level 0 brick (1, 0, 2) and level 1 brick (0, 0, 1)
-  pub case3 : (entry_in_lem one_record 0 1 0 2 ∷ entry_in_lem one_record 1 0 0 1 ∷ []) ≡ (8 ∷ 2 ∷ [])
+  pub case3 : (entry_in one_record 0 1 0 2 ∷ entry_in one_record 1 0 0 1 ∷ []) ≡ (8 ∷ 2 ∷ [])
   -- there, sample (70, 5, 130): the entry of its brick, which is (1, 0, 2); inside the brick, its item, and its byte in int16
   pub case4 : (brick_of one_record sample ∷ sample.i % side_of one 0 ∷ sample.j % side_of one 1 ∷ sample.k % side_of one 2 ∷ item_no one_record sample ∷ byte_of one_record 0 sample ∷ [])
-      ≡ (entry_in_lem one_record 0 1 0 2 ∷ 6 ∷ 5 ∷ 2 ∷ 24898 ∷ 49796 ∷ [])
+      ≡ (entry_in one_record 0 1 0 2 ∷ 6 ∷ 5 ∷ 2 ∷ 24898 ∷ 49796 ∷ [])
   -- size (9, 4, 4), side 4: the bricks of each level and of all; the extent of level 1
   pub case5 : let d = cube_of 9 4 4 4 0 in
       (bricks_on d 0 ∷ bricks_on d 1 ∷ bricks_on d 2 ∷ bricks_of d ∷ extent_along d 1 0 ∷ extent_along d 1 1 ∷ extent_along d 1 2 ∷ []) ≡ (3 ∷ 2 ∷ 1 ∷ 6 ∷ 5 ∷ 2 ∷ 2 ∷ [])

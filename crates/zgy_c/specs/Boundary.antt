@@ -16,7 +16,6 @@ use Rattle.bricks.specs.declared.Brick.{Brick}
 use Rattle.bricks.specs.declared.Brick.TheVariants as brick
 use Rattle.bricks.specs.declared.Found.{Found}
 use Rattle.bricks.specs.declared.Found.TheVariants as found
-use Rattle.logging.specs.declared.LoggedEdit.{LoggedEdit}
 use Rattle.positions.specs.Positions.{located_verdict, located_value}
 use Rattle.positions.specs.declared.Located.{Located}
 use Rattle.strings.specs.Strings.{turn_verdict}
@@ -25,7 +24,6 @@ use Rattle.strings.specs.declared.Turn.TheVariants as turn
 use Rattle.making.specs.declared.Fill.{Fill}
 use Rattle.making.specs.declared.Fill.TheVariants as fill
 use Rattle.zgy_c.specs.declared.ZgyDone.{ZgyDone}
-use Rattle.zgy_c.specs.declared.ZgyEdit.{ZgyEdit}
 use Rattle.zgy_c.specs.declared.ZgyKind.{ZgyKind}
 use Rattle.zgy_c.specs.declared.ZgyOpened.{ZgyOpened}
 use Rattle.zgy_c.specs.declared.ZgyPosition.{ZgyPosition}
@@ -35,10 +33,6 @@ use Rattle.zgy_c.specs.declared.ZgyView.{ZgyView}
 -- how much a call moved, or made
 abbrev pub done_c : Done → ZgyDone
 done_c a = record { number = number_of (verdict_of a); entry = second_of (verdict_of a); count = moved_of a }
-
--- an edit that a log holds
-abbrev pub edit_c : LoggedEdit → ZgyEdit
-edit_c a = record { number = number_of a.verdict; entry = second_of a.verdict; region = a.region }
 
 -- how bricks are made: 0 is constant, any other number stored
 abbrev pub fill_c : ℕ → Fill

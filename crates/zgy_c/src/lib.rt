@@ -5,18 +5,16 @@ ghost use Rattle.endian.specs.Bytes.{peek};
 ghost use Rattle.record.specs.Answers.{number_of, second_of};
 ghost use Rattle.opening.specs.Opening.{opened_of};
 ghost use Rattle.bricks.specs.Bricks.{kind_answer, shown_of};
-ghost use Rattle.cube.specs.Calls.{Call, raw_read, float_read, logged_write, raw, floats, answer_of, cube_after, buffers_after};
-ghost use Rattle.logging.specs.Asking.{edits_answer, edit_answer};
+ghost use Rattle.cube.specs.Calls.{Call, raw_read, float_read, raw, floats, answer_of, cube_after, buffers_after};
 ghost use Rattle.positions.specs.Positions.{position_answer};
 ghost use Rattle.strings.specs.Strings.{text_in, turn_in, strings_of};
 ghost use Rattle.making.specs.Making.{make_answer, make_buffer};
 ghost use Rattle.subtiles.specs.Answers.{permute_answer, plain_buffer, subtiled_buffer};
-ghost use Rattle.zgy_c.specs.Boundary.{done_c, edit_c, fill_c, position_c, brick_c, kind_c, opened_c, part_c, view_c, string_c};
+ghost use Rattle.zgy_c.specs.Boundary.{done_c, fill_c, position_c, brick_c, kind_c, opened_c, part_c, view_c, string_c};
 
 use bricks::{Brick, Found, brick_kind, brick_view_verdict};
 use cube::Region;
 use geometry::TEXT_START;
-use logging::{LoggedEdit, log_edit, log_edits, undo, write_logged};
 use making::{Fill, make};
 use opening::{Opened, open};
 use positions::{Located, position};
@@ -86,15 +84,6 @@ pub struct ZgyString {
     pub found: u32,
     pub offset: u64,
     pub length: u64,
-}
-
-// An edit that a log holds: its region, zeros beside a refusal.
-#[repr(C)]
-#[derive(Drop)]
-pub struct ZgyEdit {
-    pub number: u32,
-    pub entry: u32,
-    pub region: Region,
 }
 
 fn done(answer: Done) -> ZgyDone
@@ -250,19 +239,6 @@ fn numbers(verdict: Verdict) -> Refusal
     }
 }
 
-fn edit(answer: LoggedEdit) -> ZgyEdit
-    ensures { result ≡ edit_c answer }
-{
-    let verdict = answer.verdict;
-    let two = numbers(verdict);
-    let region = answer.region;
-    ZgyEdit {
-        number: two.number,
-        entry: two.entry,
-        region,
-    }
-}
-
 fn opened(answer: Opened) -> ZgyOpened
     ensures { result ≡ opened_c answer }
 {
@@ -332,48 +308,6 @@ pub extern "C" fn zgy_write(file: &mut [u8], input: &[u8], r: Record, g: Region)
     ensures cube { file.new ≡ cube_after r file.old (Call.write g input.now) }
 {
     done(write(file, input, r, g))
-}
-
-// Writes the bytes of a region into stored bricks, and logs what stood there.
-#[unsafe(no_mangle)]
-pub extern "C" fn zgy_write_logged(
-    file: &mut [u8],
-    log: &mut [u8],
-    input: &[u8],
-    r: Record,
-    g: Region,
-) -> ZgyDone
-    ensures answer { result ≡ done_c (answer_of r file.old (logged_write g input.now log.old)) }
-    ensures cube { file.new ≡ cube_after r file.old (logged_write g input.now log.old) }
-    ensures log { raw input.now ∷ raw log.new ∷ [] ≡ buffers_after r file.old (logged_write g input.now log.old) }
-{
-    done(write_logged(file, log, input, r, g))
-}
-
-// Takes the last n edits of a log back.
-#[unsafe(no_mangle)]
-pub extern "C" fn zgy_undo(file: &mut [u8], log: &mut [u8], r: Record, n: u32) -> ZgyDone
-    ensures answer { result ≡ done_c (answer_of r file.old (Call.undo n log.old)) }
-    ensures cube { file.new ≡ cube_after r file.old (Call.undo n log.old) }
-    ensures log { raw log.new ∷ [] ≡ buffers_after r file.old (Call.undo n log.old) }
-{
-    done(undo(file, log, r, n))
-}
-
-// How many edits a log holds.
-#[unsafe(no_mangle)]
-pub extern "C" fn zgy_log_edits(log: &[u8], r: Record) -> ZgyDone
-    ensures { result ≡ done_c (edits_answer r log.now) }
-{
-    done(log_edits(log, r))
-}
-
-// The region of an edit, by its number from the newest.
-#[unsafe(no_mangle)]
-pub extern "C" fn zgy_log_edit(log: &[u8], r: Record, n: u32) -> ZgyEdit
-    ensures { result ≡ edit_c (edit_answer r log.now n) }
-{
-    edit(log_edit(log, r, n))
 }
 
 // Where an index stands along a dimension.

@@ -1,7 +1,6 @@
 //! The library's speed, as ratios to plain Rust doing the same job and to memcpy of the same bytes, all in one run.
 
 mod cubes;
-mod edits;
 mod opening;
 mod others;
 mod plain;
@@ -16,12 +15,11 @@ use table::{Effort, Report};
 /// What the argument chooses.
 type Part = (&'static str, fn(&mut Report));
 
-const PARTS: [Part; 7] = [
+const PARTS: [Part; 6] = [
     ("open", opening::run),
     ("raw", |report| regions::run(report, Call::Raw)),
     ("float", |report| regions::run(report, Call::Float)),
     ("write", |report| regions::run(report, Call::Write)),
-    ("log", edits::run),
     ("other", others::run),
     ("segyio", segyio::run),
 ];

@@ -2,7 +2,7 @@
 
 use crate::cubes::{self, Bits, TEXT};
 use crate::plain::{layout, open};
-use crate::table::{Goal, Job, Report, Row};
+use crate::table::{Goal, Report, Row};
 use std::hint::black_box;
 use zgy::{Cube, Fill};
 
@@ -69,9 +69,10 @@ pub fn run(report: &mut Report) {
             let library = |file: &mut Vec<u8>| _ = black_box(Cube::open(black_box(file)));
             let plain = |file: &mut Vec<u8>| _ = black_box(open::open(black_box(file)));
             let goal = Goal { plain: layout.goal, memcpy: None };
-            let plain: &[Job<Vec<u8>>] = &[&plain];
-            let row = Row { name: &name, same, library: &library, plain, memcpy: None, reset: None, goal, samples: None };
-            report.row(row, &mut file);
+            report.row(
+                Row { name: &name, same, library: &library, plain: &[&plain], memcpy: None, goal, samples: None },
+                &mut file,
+            );
         }
     }
 }

@@ -31,8 +31,7 @@ impl Bench {
 
 /// A row without a goal.
 fn row<S>(report: &mut Report, name: &str, same: bool, state: &mut S, library: Job<S>, plain: Job<S>) {
-    let (plain, goal) = (&[plain], Goal::default());
-    report.row(Row { name, same, library, plain, memcpy: None, reset: None, goal, samples: None }, state);
+    report.row(Row { name, same, library, plain: &[plain], memcpy: None, goal: Goal::default(), samples: None }, state);
 }
 
 /// A row of two answers, which are compared first.
@@ -121,8 +120,7 @@ fn permutation(report: &mut Report, kind: Type, way: Way) {
     let memcpy = |out: &mut Vec<u8>| black_box(out).copy_from_slice(black_box(brick));
     let same = same_bytes(out, &library, &runs) && same_bytes(out, &library, &eights);
     let plain: &[Job<Vec<u8>>] = &[&runs, &eights];
-    let goal = Goal::default();
-    let row = Row { name: &name, same, library: &library, plain, memcpy: Some(&memcpy), reset: None, goal, samples: None };
+    let row = Row { name: &name, same, library: &library, plain, memcpy: Some(&memcpy), goal: Goal::default(), samples: None };
     report.row(row, out);
 }
 

@@ -181,7 +181,6 @@ fn measure(report: &mut Report, bench: &mut Bench, name: &str, call: Call, regio
         plain: &[by_bricks, by_inlines, by_runs],
         // Floats are converted, so there are no same bytes to copy.
         memcpy: if call == Call::Float { None } else { Some(&memcpy) },
-        reset: None,
         goal: goal.unwrap_or_default(),
         samples: goal.is_none().then(|| region.samples()),
     };

@@ -16,7 +16,7 @@ pub use linked::run;
 #[cfg(segyio)]
 mod linked {
     use crate::cubes;
-    use crate::table::{Goal, Job, Report, Row};
+    use crate::table::{Goal, Report, Row};
     use std::ffi::{c_char, c_int, c_long, c_longlong, c_void, CString};
     use std::hint::black_box;
     use std::io::{BufWriter, Write};
@@ -218,8 +218,8 @@ mod linked {
             let same = bench.agree(shape);
             let library = |bench: &mut Bench| bench.library(shape);
             let segyio = |bench: &mut Bench| bench.segyio(shape);
-            let (plain, goal): (&[Job<Bench>], _) = (&[&segyio], Goal::default());
-            let row = Row { name, same, library: &library, plain, memcpy: None, reset: None, goal, samples: None };
+            let row =
+                Row { name, same, library: &library, plain: &[&segyio], memcpy: None, goal: Goal::default(), samples: None };
             report.row(row, &mut bench);
         }
     }

@@ -26,9 +26,6 @@ pub struct Goal {
     pub memcpy: Option<f64>,
 }
 
-/// What is done, but not timed, after each call of a job that cannot be repeated on what it leaves.
-pub type Reset<'a, S> = Option<Job<'a, S>>;
-
 /// What one row measures.
 pub struct Row<'a, S> {
     pub name: &'a str,
@@ -38,7 +35,6 @@ pub struct Row<'a, S> {
     /// Ways to do it in plain Rust; the fastest counts.
     pub plain: &'a [Job<'a, S>],
     pub memcpy: Option<Job<'a, S>>,
-    pub reset: Reset<'a, S>,
     pub goal: Goal,
     /// Where regions grow: how many samples this one has, and the last column says the time of one.
     pub samples: Option<u128>,
@@ -56,9 +52,6 @@ pub struct Times {
 pub struct Report {
     effort: Effort,
     title: String,
-    /// What the library is compared with.
-    against: &'static str,
-    beside: &'static str,
     unequal: Vec<String>,
     missed: usize,
     rows: usize,
@@ -73,10 +66,10 @@ struct Rounds {
 
 impl Rounds {
     /// Finds how many calls make up a round.
-    fn calibrate<S>(job: Job<S>, reset: Reset<S>, state: &mut S, effort: Effort) -> Self {
+    fn calibrate<S>(job: Job<S>, state: &mut S, effort: Effort) -> Self {
         let mut calls = 1;
         while calls < 1 << 24 {
-            let ns = time(job, reset, state, calls) * calls as f64;
+            let ns = time(job, state, calls) * calls as f64;
             if ns >= effort.round_ns / 2.0 {
                 break;
             }
@@ -85,8 +78,8 @@ impl Rounds {
         Rounds { calls, times: Vec::with_capacity(effort.rounds) }
     }
 
-    fn run<S>(&mut self, job: Job<S>, reset: Reset<S>, state: &mut S) {
-        self.times.push(time(job, reset, state, self.calls));
+    fn run<S>(&mut self, job: Job<S>, state: &mut S) {
+        self.times.push(time(job, state, self.calls));
     }
 
     fn best(&self) -> f64 {
@@ -101,40 +94,24 @@ impl Rounds {
     }
 }
 
-fn time<S>(job: Job<S>, reset: Reset<S>, state: &mut S, calls: usize) -> f64 {
-    let Some(reset) = reset else {
-        let start = Instant::now();
-        for _ in 0..calls {
-            job(state);
-        }
-        return start.elapsed().as_nanos() as f64 / calls as f64;
-    };
-    let mut sum = 0.0;
+fn time<S>(job: Job<S>, state: &mut S, calls: usize) -> f64 {
+    let start = Instant::now();
     for _ in 0..calls {
-        let start = Instant::now();
         job(state);
-        sum += start.elapsed().as_nanos() as f64;
-        reset(state);
     }
-    sum / calls as f64
+    start.elapsed().as_nanos() as f64 / calls as f64
 }
 
 impl Report {
     pub fn new(effort: Effort) -> Self {
-        Report { effort, title: String::new(), against: "", beside: "", unequal: Vec::new(), missed: 0, rows: 0, noise: Vec::new() }
+        Report { effort, title: String::new(), unequal: Vec::new(), missed: 0, rows: 0, noise: Vec::new() }
     }
 
     /// Starts a table, of times against something's.
-    pub fn title(&mut self, title: &str, against: &'static str) {
-        self.title_beside(title, against, "memcpy");
-    }
-
-    /// The same, with something else in memcpy's place.
-    pub fn title_beside(&mut self, title: &str, against: &'static str, beside: &'static str) {
+    pub fn title(&mut self, title: &str, against: &str) {
         self.title = title.to_string();
-        (self.against, self.beside) = (against, beside);
         println!("\n## {title}\n");
-        println!("| case | library | {against} | ratio | {beside} | ratio | |");
+        println!("| case | library | {against} | ratio | memcpy | ratio | |");
         println!("|---|---:|---:|---:|---:|---:|---|");
     }
 
@@ -145,15 +122,15 @@ impl Report {
             self.unequal.push(format!("{}: {}", self.title, row.name));
             return None;
         }
-        let (effort, reset) = (self.effort, row.reset);
-        let mut library = Rounds::calibrate(row.library, reset, state, effort);
-        let mut plain: Vec<_> = row.plain.iter().map(|job| Rounds::calibrate(*job, reset, state, effort)).collect();
-        let mut memcpy = row.memcpy.map(|job| (job, Rounds::calibrate(job, reset, state, effort)));
+        let effort = self.effort;
+        let mut library = Rounds::calibrate(row.library, state, effort);
+        let mut plain: Vec<_> = row.plain.iter().map(|job| Rounds::calibrate(*job, state, effort)).collect();
+        let mut memcpy = row.memcpy.map(|job| (job, Rounds::calibrate(job, state, effort)));
         for _ in 0..effort.rounds {
-            library.run(row.library, reset, state);
-            plain.iter_mut().zip(row.plain).for_each(|(rounds, job)| rounds.run(*job, reset, state));
+            library.run(row.library, state);
+            plain.iter_mut().zip(row.plain).for_each(|(rounds, job)| rounds.run(*job, state));
             if let Some((job, rounds)) = &mut memcpy {
-                rounds.run(*job, reset, state);
+                rounds.run(*job, state);
             }
         }
         self.noise.push(library.noise());
@@ -184,7 +161,7 @@ impl Report {
             (Some(ns), Some(goal)) if times.library > goal * ns => Some(format!("over {goal} of {what}")),
             _ => None,
         };
-        let misses = [over(Some(times.plain), goal.plain, self.against), over(times.memcpy, goal.memcpy, self.beside)];
+        let misses = [over(Some(times.plain), goal.plain, "plain Rust"), over(times.memcpy, goal.memcpy, "memcpy")];
         let mark = misses.into_iter().flatten().collect::<Vec<_>>().join(", ");
         self.missed += usize::from(!mark.is_empty());
         mark

@@ -3,7 +3,7 @@
 use crate::cubes::{self, finite, not_finite};
 use crate::damage::hostile_entry;
 use crate::random::Random;
-use crate::reader::{self, Edit, Entry};
+use crate::reader::{self, Entry};
 use zgy::{Record, Region};
 
 const HIGH_LEVELS: [u32; 8] = [20, 31, 32, 33, 63, 64, 1 << 31, u32::MAX];
@@ -212,70 +212,4 @@ pub fn edit_table(random: &mut Random, file: &mut [u8], record: &Record) {
         let value = hostile_entry(random, record);
         reader::put(file, reader::entry_offset(record, entry), &value.to_le_bytes());
     }
-}
-
-/// Edits of a cube, with any bytes, as another session may have logged them.
-pub fn edits(random: &mut Random, good: &Record, count: usize) -> Vec<Edit> {
-    let mut edit = || {
-        let region = region_inside(random, good);
-        let bytes = reader::samples(region) as usize * reader::item_bytes(good.description.datatype);
-        (region, random.bytes(bytes))
-    };
-    (0..count).map(|_| edit()).collect()
-}
-
-/// A log of some edits, with free room of any bytes.
-pub fn log(random: &mut Random, good: &Record) -> Vec<u8> {
-    let count = random.pick(&[0, 0, 1, 2, 3, 5]);
-    let mut log = reader::log_of(&edits(random, good, count));
-    let any = random.below(2 * good.length as usize);
-    let room = random.pick(&[0, 40, any]);
-    log.extend(random.bytes(room));
-    log
-}
-
-/// How many edits to undo: mostly as many as there may be, at times none or too many.
-pub fn edits_to_undo(random: &mut Random, log: &[u8]) -> u32 {
-    let held = if log.len() < 4 { 0 } else { reader::u32_at(log, 0) };
-    match random.below(8) {
-        0 => random.pick(&[held.wrapping_add(1), u32::MAX, 1 << 31, 1 << 16]),
-        1 => held,
-        2 => 0,
-        _ => random.between(0, held.min(4)),
-    }
-}
-
-/// Counts of heads that no log here has: 28 times some of them is little in 32 bits.
-const HOSTILE_COUNTS: [u32; 7] = [u32::MAX, 1 << 31, 1 << 30, 153_391_690, 153_391_691, 0x0924_9249, 1 << 16];
-
-/// One damage of a random sort to a log, after which it may still be one.
-pub fn damage_log(random: &mut Random, good: &Record, log: &mut Vec<u8>) {
-    let Ok(edits) = reader::judge_log(log, good) else { return };
-    let (end, heads) = (reader::log_of(&edits).len(), edits.len());
-    let near = |random: &mut Random, number: u32| random.pick(&[number + 1, number.wrapping_sub(1), 0]);
-    match random.below(7) {
-        0 => log.truncate(random.below(end + 1)),
-        1 => log[random.below(end)] ^= 1 << random.below(8),
-        2 => put_word(log, 0, near(random, heads as u32)),
-        3 => put_word(log, 0, random.pick(&HOSTILE_COUNTS)),
-        4 => {
-            let samples = reader::u32_at(log, 4 + 28 * heads);
-            let number = random.pick(&[samples + 1, samples.wrapping_sub(1), 0, u32::MAX, samples ^ 1 << 31]);
-            put_word(log, 4 + 28 * heads, number);
-        }
-        5 if heads > 0 => {
-            let hostile = [0, 1, good.levels, u32::MAX, 1 << 31, 1 << 16, good.description.size[0]];
-            put_word(log, 4 + 28 * random.below(heads) + 4 * random.below(7), random.pick(&hostile));
-        }
-        _ if heads > 0 => {
-            // Another region with its own sum: only the sum over all heads can tell.
-            let (at, region) = (4 + 28 * random.below(heads), region(random, good));
-            reader::put_words(log, at, &[&[region.level], &region.start[..], &region.count[..]].concat());
-        }
-        _ => {}
-    }
-}
-
-fn put_word(log: &mut [u8], at: usize, word: u32) {
-    reader::put_words(log, at, &[word]);
 }

@@ -41,12 +41,6 @@ impl Ledger {
         }
     }
 
-    /// A taken undo counts as writes, newest edit first, of the bytes that the log it is lent holds, whatever log that is.
-    pub fn undid(&mut self, log: &[u8], n: u32) {
-        let edits = reader::judge_log(log, &self.record).expect("a taken undo has a sound log");
-        edits.iter().rev().take(n as usize).for_each(|(region, bytes)| self.wrote(*region, bytes));
-    }
-
     fn samples(&self, region: Region) -> impl Iterator<Item = Sample> + '_ {
         reader::places(region).map(move |at| self.rows[region.level as usize][self.row(region.level, at)])
     }

@@ -31,11 +31,8 @@ pub const STRINGS: Least = Least { cubes: 5_000, calls: 40_000 };
 pub const MAKING: Least = Least { cubes: 4_000, calls: 20_000 };
 pub const PERMUTATION: Least = Least { cubes: 0, calls: 20_000 };
 pub const LISTS: Least = Least { cubes: 4_000, calls: 100_000 };
-pub const UNDO: Least = Least { cubes: 1_500, calls: 20_000 };
-pub const LOGS: Least = Least { cubes: 4_000, calls: 60_000 };
 
-const ALL: [Least; 11] =
-    [SOUND_OPENINGS, DAMAGED_OPENINGS, CALLS, RECORDS, POSITIONS, STRINGS, MAKING, PERMUTATION, LISTS, UNDO, LOGS];
+const ALL: [Least; 9] = [SOUND_OPENINGS, DAMAGED_OPENINGS, CALLS, RECORDS, POSITIONS, STRINGS, MAKING, PERMUTATION, LISTS];
 
 /// What all topics together promise.
 const fn total() -> Least {

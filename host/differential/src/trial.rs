@@ -18,7 +18,6 @@ pub struct Trial {
     file: Area,
     out: Area,
     input: Area,
-    log: Area,
 }
 
 /// The one case that the host asks for.
@@ -36,7 +35,6 @@ pub fn run(seed: u64, cases: u64, mut body: impl FnMut(&mut Trial, u64)) -> Tria
         file: Area::new(),
         out: Area::new(),
         input: Area::new(),
-        log: Area::new(),
     };
     let asked = asked_case();
     for case in (0..cases).filter(|&case| asked.is_none_or(|asked| asked == case)) {
@@ -86,13 +84,6 @@ fn kind_bits(answer: Answer<Brick>) -> Answer<(&'static str, u64)> {
 fn range_in(part: &[u8], lent: &[u8]) -> Option<Range<usize>> {
     let start = (part.as_ptr() as usize).checked_sub(lent.as_ptr() as usize)?;
     (start + part.len() <= lent.len()).then_some(start..start + part.len())
-}
-
-/// Takes over what the library left where FORMAT does not settle it.
-fn settle(after: &mut [u8], library: &[u8], unsettled: Vec<Range<usize>>) {
-    for range in unsettled {
-        after[range.clone()].copy_from_slice(&library[range]);
-    }
 }
 
 fn number<T>(answer: &Answer<T>) -> u32 {
@@ -195,78 +186,13 @@ impl Trial {
         self.tally.count(Call::Write, number(&answer));
         assert_eq!(answer, expected, "write of {region:?} from {} bytes in {record:?}", input.len());
         if answer.is_ok() {
-            settle(&mut after, file, reader::unsettled(cube, record, region));
-        }
-        assert_same("file", file, &after);
-        assert_same("input", lent, input);
-        *cube = after;
-        answer
-    }
-
-    /// Writes with a log, and leaves cube and log as the library left them.
-    pub fn write_logged(
-        &mut self,
-        record: &Record,
-        cube: &mut Vec<u8>,
-        log: &mut [u8],
-        region: Region,
-        input: &[u8],
-    ) -> Answer<usize> {
-        let edge = self.edge();
-        let (file, lent) = (self.file.lend(cube, edge), &*self.input.lend(input, edge));
-        let lent_log = self.log.lend(log, edge);
-        let answer = record.write_logged(file, lent_log, region, lent);
-        let mut after = cube.clone();
-        let expected = reader::write_logged(&mut after, log, record, region, input);
-        self.tally.count(Call::WriteLogged, number(&answer));
-        assert_eq!(answer, expected, "logged write of {region:?} from {} bytes, log of {} in {record:?}", input.len(), log.len());
-        if answer.is_ok() {
-            settle(&mut after, file, reader::unsettled(cube, record, region));
-        }
-        assert_same("file", file, &after);
-        assert_same("input", lent, input);
-        assert_same("log", lent_log, log);
-        *cube = after;
-        answer
-    }
-
-    /// Undoes, and leaves cube and log as the library left them.
-    pub fn undo(&mut self, record: &Record, cube: &mut Vec<u8>, log: &mut [u8], n: u32) -> Answer<usize> {
-        let edge = self.edge();
-        let (file, lent_log) = (self.file.lend(cube, edge), self.log.lend(log, edge));
-        let answer = record.undo(file, lent_log, n);
-        let (mut after, before) = (cube.clone(), log.to_vec());
-        let expected = reader::undo(&mut after, log, record, n);
-        self.tally.count(Call::Undo, number(&answer));
-        assert_eq!(answer, expected, "undo of {n} with a log of {} in {record:?}", log.len());
-        if answer.is_ok() {
-            for (region, _) in reader::judge_log(&before, record).unwrap().iter().rev().take(n as usize) {
-                settle(&mut after, file, reader::unsettled(cube, record, *region));
+            for range in reader::unsettled(cube, record, region) {
+                after[range.clone()].copy_from_slice(&file[range]);
             }
         }
         assert_same("file", file, &after);
-        assert_same("log", lent_log, log);
+        assert_same("input", lent, input);
         *cube = after;
-        answer
-    }
-
-    pub fn log_edits(&mut self, record: &Record, log: &[u8]) -> Answer<u32> {
-        let edge = self.edge();
-        let lent = &*self.log.lend(log, edge);
-        let answer = record.log_edits(lent);
-        self.tally.count(Call::LogEdits, number(&answer));
-        assert_eq!(answer, reader::log_edits(log, record), "edits of a log of {} in {record:?}", log.len());
-        assert_same("log", lent, log);
-        answer
-    }
-
-    pub fn log_edit(&mut self, record: &Record, log: &[u8], n: u32) -> Answer<Region> {
-        let edge = self.edge();
-        let lent = &*self.log.lend(log, edge);
-        let answer = record.log_edit(lent, n);
-        self.tally.count(Call::LogEdit, number(&answer));
-        assert_eq!(answer, reader::log_edit(log, record, n), "edit {n} of a log of {} in {record:?}", log.len());
-        assert_same("log", lent, log);
         answer
     }
 

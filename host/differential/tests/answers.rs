@@ -56,13 +56,6 @@ struct Position {
     value: f64,
 }
 
-#[repr(C)]
-struct Edit {
-    number: u32,
-    entry: u32,
-    region: Region,
-}
-
 extern "C" {
     fn zgy_open(file: *const u8, length: usize) -> Opened;
     fn zgy_brick_kind(file: *const u8, length: usize, cube: Record, entry: u32) -> Kind;
@@ -70,19 +63,6 @@ extern "C" {
     fn zgy_read_raw(out: *mut u8, room: usize, file: *const u8, length: usize, cube: Record, region: Region) -> Done;
     fn zgy_read_float(out: *mut f64, room: usize, file: *const u8, length: usize, cube: Record, region: Region) -> Done;
     fn zgy_write(file: *mut u8, length: usize, input: *const u8, room: usize, cube: Record, region: Region) -> Done;
-    fn zgy_write_logged(
-        file: *mut u8,
-        length: usize,
-        log: *mut u8,
-        log_length: usize,
-        input: *const u8,
-        room: usize,
-        cube: Record,
-        region: Region,
-    ) -> Done;
-    fn zgy_undo(file: *mut u8, length: usize, log: *mut u8, log_length: usize, cube: Record, n: u32) -> Done;
-    fn zgy_log_edits(log: *const u8, log_length: usize, cube: Record) -> Done;
-    fn zgy_log_edit(log: *const u8, log_length: usize, cube: Record, n: u32) -> Edit;
     fn zgy_position(cube: Record, dimension: u32, index: u32) -> Position;
     fn zgy_string(file: *const u8, length: usize, cube: Record, number: u32) -> Str;
     fn zgy_make(out: *mut u8, room: usize, description: Description, text: *const u8, length: usize, fill: u32) -> Done;
@@ -92,27 +72,13 @@ extern "C" {
 
 /// The second number belongs to refusals 12, 13 and 19 alone.
 fn assert_numbers(number: u32, entry: u32) {
-    assert!(number <= 20 || (22..=24).contains(&number), "there is no number {number}");
+    assert!(number <= 20, "there is no number {number}");
     assert!(entry == 0 || [12, 13, 19].contains(&number), "{number} names entry {entry}");
 }
 
 fn assert_done(done: Done) {
     assert_numbers(done.number, done.entry);
     assert_eq!(done.number == 0, done.count > 0, "a count exactly where the call is taken");
-}
-
-/// An empty log has no edits, and no edits restore no bytes: a taken call may count nothing.
-fn assert_counted(done: Done) -> u64 {
-    assert_numbers(done.number, done.entry);
-    assert!(done.number == 0 || done.count == 0, "refused {} with a count", done.number);
-    done.count
-}
-
-fn assert_edit(edit: Edit) {
-    assert_numbers(edit.number, edit.entry);
-    let nothing = Region { level: 0, start: [0; 3], count: [0; 3] };
-    assert_eq!(edit.number == 0, edit.region.count.iter().all(|&n| n > 0), "a region exactly where the call is taken");
-    assert!(edit.number == 0 || edit.region == nothing, "refused {} with a region", edit.number);
 }
 
 /// Each kind of brick fills its own field and leaves the other zero.
@@ -187,36 +153,6 @@ fn refused_calls_hold_nothing() {
                 let position = zgy_position(record, random.between(0, 3), random.between(0, 20));
                 assert_numbers(position.number, position.entry);
                 assert!(position.number == 0 || position.value.to_bits() == 0);
-            }
-        }
-    });
-}
-
-#[test]
-fn refused_log_calls_hold_nothing() {
-    run(1105, 6_000, |trial, _| {
-        let random = &mut trial.random;
-        let cube = cubes::sound(random, cubes::SMALL);
-        let mut file = cube.file;
-        if random.one_in(2) {
-            arguments::edit_table(random, &mut file, &cube.record);
-        }
-        let mut log = arguments::log(random, &cube.record);
-        if random.one_in(2) {
-            arguments::damage_log(random, &cube.record, &mut log);
-        }
-        let input = random.bytes(5_000);
-        for _ in 0..4 {
-            let (record, region) = (arguments::record(random, &cube.record), arguments::region(random, &cube.record));
-            let (bytes, length, room) = (file.as_mut_ptr(), file.len(), random.below(5_000));
-            let n = arguments::edits_to_undo(random, &log);
-            let (held, held_length) = (log.as_mut_ptr(), log.len());
-            unsafe {
-                assert_edit(zgy_log_edit(held, held_length, record, n));
-                let edits = assert_counted(zgy_log_edits(held, held_length, record));
-                let restored = assert_counted(zgy_undo(bytes, length, held, held_length, record, n));
-                assert!(edits >= u64::from(restored > 0));
-                assert_done(zgy_write_logged(bytes, length, held, held_length, input.as_ptr(), room, record, region));
             }
         }
     });

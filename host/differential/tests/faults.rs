@@ -81,14 +81,6 @@ fn empty_slices() {
         let _ = trial.read_float(&record, &file, one, 0);
         let _ = trial.write(&record, &mut file, one, &[]);
         let _ = trial.write(&record, &mut Vec::new(), one, &[]);
-        for log in [vec![], vec![0; 8], vec![0; 100]] {
-            let _ = trial.write_logged(&record, &mut file, &mut log.clone(), one, &[]);
-            let _ = trial.write_logged(&record, &mut file, &mut log.clone(), one, &[1, 2, 3, 4]);
-            let _ = trial.write_logged(&record, &mut Vec::new(), &mut log.clone(), one, &[1, 2, 3, 4]);
-            let _ = trial.undo(&record, &mut file, &mut log.clone(), 0);
-            let _ = trial.undo(&record, &mut Vec::new(), &mut log.clone(), 0);
-            let _ = (trial.log_edits(&record, &log), trial.log_edit(&record, &log, 0));
-        }
         let _ = trial.brick_kind(&record, &[], 0);
         let _ = trial.brick_view(&record, &[], &[], 0);
         let _ = trial.read_raw(&record, &[], one, 0);
@@ -103,8 +95,7 @@ fn empty_slices() {
     });
 }
 
-/// A brick that ends with the file, and buffers of exactly the region, or of exactly the log: copies in wide steps would leave the
-/// slices.
+/// A brick that ends with the file, and buffers of exactly the region: copies in wide steps would leave the slices.
 #[test]
 fn exact_slices() {
     run(1002, 3, |trial, case| {
@@ -123,15 +114,6 @@ fn exact_slices() {
                     let input = trial.random.bytes(bytes);
                     trial.write(&cube.record, &mut file, last, &input).unwrap();
                 }
-                // The second edit leaves no room, and moves what the first one saved.
-                let mut log = vec![0; 8 + 2 * (28 + bytes)];
-                for _ in 0..2 {
-                    let input = trial.random.bytes(bytes);
-                    trial.write_logged(&cube.record, &mut file, &mut log, last, &input).unwrap();
-                }
-                trial.log_edit(&cube.record, &log, 1).unwrap();
-                let n = trial.random.between(1, 2);
-                trial.undo(&cube.record, &mut file, &mut log, n).unwrap();
             }
         }
     });

@@ -1,5 +1,4 @@
 //! Lists of region calls on one cube, against the ledger of FORMAT 12.4: every taken read gives exactly what the ledger gives.
-//! Writes, logged writes and undos are among them, with logs of the list's own and any others.
 
 use differential::arguments;
 use differential::cubes::{self, any_limits, Sound};
@@ -10,90 +9,46 @@ use differential::trial::{run, Trial};
 use differential::LISTS;
 use zgy::{Record, Region};
 
-/// A cube and its log in the middle of a list.
-struct State {
-    file: Vec<u8>,
-    log: Vec<u8>,
-    ledger: Ledger,
-}
-
 /// One region call of a random sort, told to the ledger as FORMAT says: its arguments, and whether it was refused.
-fn one_call(trial: &mut Trial, good: &Record, state: &mut State) {
-    let State { file, log, ledger } = state;
+fn one_call(trial: &mut Trial, good: &Record, file: &mut Vec<u8>, ledger: &mut Ledger) {
     let random = &mut trial.random;
     let region = arguments::region(random, good);
     let width = reader::item_bytes(good.description.datatype);
     let samples = reader::samples(region);
-    match random.below(8) {
-        0 | 1 => {
+    match random.below(4) {
+        0 => {
             let room = arguments::room(random, samples * width as u128);
             if let Ok(raw) = trial.read_raw(good, file, region, room) {
                 assert_eq!(raw, ledger.raw(region), "raw read of {region:?}");
             }
         }
-        2 => {
+        1 => {
             let room = arguments::room(random, samples);
             if let Ok(floats) = trial.read_float(good, file, region, room) {
                 assert_eq!(floats, ledger.floats(region), "float read of {region:?}");
             }
         }
-        3 | 4 => {
+        _ => {
             let room = arguments::room(random, samples * width as u128);
             let input = random.bytes(room);
             if trial.write(good, file, region, &input).is_ok() {
                 ledger.wrote(region, &input);
             }
         }
-        5 | 6 => {
-            let room = arguments::room(random, samples * width as u128);
-            let input = random.bytes(room);
-            let mut lent = lent_log(trial, good, log);
-            if trial.write_logged(good, file, &mut lent, region, &input).is_ok() {
-                ledger.wrote(region, &input);
-                *log = lent;
-            }
-        }
-        _ => undo(trial, good, state),
-    }
-}
-
-/// The list's own log, at times another one for this cube, or a damaged one.
-fn lent_log(trial: &mut Trial, good: &Record, own: &[u8]) -> Vec<u8> {
-    let mut log = own.to_vec();
-    match trial.random.below(10) {
-        0 => arguments::log(&mut trial.random, good),
-        1 => {
-            arguments::damage_log(&mut trial.random, good, &mut log);
-            log
-        }
-        _ => log,
-    }
-}
-
-fn undo(trial: &mut Trial, good: &Record, State { file, log, ledger }: &mut State) {
-    let mut lent = lent_log(trial, good, log);
-    let (n, before) = (arguments::edits_to_undo(&mut trial.random, &lent), lent.clone());
-    let asked = trial.random.pick(&[0, n, n.wrapping_sub(1), u32::MAX]);
-    let _ = (trial.log_edits(good, &lent), trial.log_edit(good, &lent, asked));
-    if trial.undo(good, file, &mut lent, n).is_ok() {
-        ledger.undid(&before, n);
-        *log = lent;
     }
 }
 
 /// Calls with a hostile record. They are made where it is not sound, so that they are refused: the ledger hears of nothing.
-fn hostile_call(trial: &mut Trial, good: &Record, State { file, log, .. }: &State) {
+fn hostile_call(trial: &mut Trial, good: &Record, file: &[u8]) {
     let change = trial.random.below(arguments::CHANGES.len() - 1);
     let record = arguments::changed(&mut trial.random, good, change);
     let region = arguments::region_inside(&mut trial.random, good);
     if reader::judge_record(&record, Some(file)).is_err() {
-        let (mut lent, mut lent_log) = (file.clone(), log.clone());
+        let mut lent = file.to_vec();
         let input = trial.random.bytes(64);
         assert!(trial.write(&record, &mut lent, region, &input).is_err());
-        assert!(trial.write_logged(&record, &mut lent, &mut lent_log, region, &input).is_err());
-        assert!(trial.undo(&record, &mut lent, &mut lent_log, 1).is_err());
         assert!(trial.read_raw(&record, &lent, region, 64).is_err());
-        assert!(lent == *file && lent_log == *log, "a refused call changes nothing");
+        assert_eq!(lent, file, "a refused call changes nothing");
     }
 }
 
@@ -129,15 +84,14 @@ fn assert_others_unchanged(cube: &Sound, after: &[u8]) {
 
 fn list(trial: &mut Trial, cube: &Sound, calls: u64) {
     let record = trial.open(&cube.file).expect("a sound cube opens");
-    let log = arguments::log(&mut trial.random, &record);
-    let mut state = State { file: cube.file.clone(), log, ledger: Ledger::new(&cube.file, &record) };
+    let mut ledger = Ledger::new(&cube.file, &record);
+    let mut file = cube.file.clone();
     for _ in 0..calls {
-        one_call(trial, &record, &mut state);
+        one_call(trial, &record, &mut file, &mut ledger);
         if trial.random.one_in(8) {
-            hostile_call(trial, &record, &state);
+            hostile_call(trial, &record, &file);
         }
     }
-    let State { file, ledger, .. } = state;
     assert_whole_levels(trial, &record, &file, &ledger);
     assert_others_unchanged(cube, &file);
     let again = trial.open(&file).expect("an edited cube opens");
@@ -155,11 +109,7 @@ fn lists_of_calls_follow_the_ledger() {
     // No read or write of an opened cube is refused by 12.
     trial.assert_met(LISTS, &[], 0);
     trial.assert_numbers_met(&[Call::ReadRaw, Call::ReadFloat], &[0, 15, 16, 18], 100);
-    trial.assert_numbers_met(&[Call::Write, Call::WriteLogged], &[0, 14, 15, 16, 18, 19], 100);
-    trial.assert_numbers_met(&[Call::WriteLogged], &[22, 23], 100);
-    trial.assert_numbers_met(&[Call::Undo], &[0, 14, 22, 24, 19], 100);
-    trial.assert_numbers_met(&[Call::LogEdits], &[0, 22], 100);
-    trial.assert_numbers_met(&[Call::LogEdit], &[0, 22, 16], 100);
+    trial.assert_numbers_met(&[Call::Write], &[0, 14, 15, 16, 18, 19], 100);
 }
 
 /// Long lists of mostly taken writes on cubes whose bricks are all stored: later writes fall onto earlier ones.

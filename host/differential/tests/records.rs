@@ -15,11 +15,6 @@ fn all_calls(trial: &mut Trial, record: &Record, file: &mut Vec<u8>) {
     let _ = trial.read_raw(record, file, one, 4);
     let _ = trial.read_float(record, file, one, 1);
     let _ = trial.write(record, file, one, &[1, 2, 3, 4]);
-    let mut log = vec![0; 8 + 28 + 4];
-    let _ = trial.write_logged(record, file, &mut log, one, &[5, 6, 7, 8]);
-    let _ = trial.log_edits(record, &log);
-    let _ = trial.log_edit(record, &log, 0);
-    let _ = trial.undo(record, file, &mut log, 1);
     let _ = trial.position(record, 0, 0);
 }
 

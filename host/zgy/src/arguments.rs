@@ -20,7 +20,7 @@ impl Arguments {
         while let Some(word) = given.next() {
             if FLAGS.contains(&word.as_str()) || word == "--help" || word == "-h" {
                 options.push((word, String::new()));
-            } else if word.starts_with("--") || word == "-o" || word == "-n" {
+            } else if word.starts_with("--") || word == "-o" {
                 let value = given.next().ok_or_else(|| Failure::usage(format!("{word} needs a value")))?;
                 options.push((word, value));
             } else {
@@ -65,16 +65,12 @@ impl Arguments {
 
     /// N values with commas between them.
     pub fn list<T: FromStr + Copy, const N: usize>(&mut self, name: &str, what: &str) -> Result<Option<[T; N]>, Failure> {
-        self.take(name).map(|value| items(name, &value, what)).transpose()
-    }
-
-    /// Two such lists with a colon between them.
-    pub fn lists<T: FromStr + Copy, const N: usize>(&mut self, name: &str, what: &str) -> Result<Option<[[T; N]; 2]>, Failure> {
         let Some(value) = self.take(name) else { return Ok(None) };
-        let Some((first, second)) = value.split_once(':') else {
-            return Err(Failure::usage(format!("{name}: '{value}' is not two lists with a colon between them")));
-        };
-        Ok(Some([items(name, first, what)?, items(name, second, what)?]))
+        let items: Result<Vec<T>, Failure> = value.split(',').map(|item| parsed(item, what)).collect();
+        let items = items.map_err(|failure| at_option(name, failure))?;
+        let count = items.len();
+        let array = items.try_into().map_err(|_| Failure::usage(format!("{name}: {N} values are needed, {count} are given")))?;
+        Ok(Some(array))
     }
 
     /// Nothing may be left over.
@@ -87,17 +83,10 @@ impl Arguments {
     }
 }
 
-fn items<T: FromStr + Copy, const N: usize>(name: &str, list: &str, what: &str) -> Result<[T; N], Failure> {
-    let items: Result<Vec<T>, Failure> = list.split(',').map(|item| parsed(item, what)).collect();
-    let items = items.map_err(|failure| at_option(name, failure))?;
-    let count = items.len();
-    items.try_into().map_err(|_| Failure::usage(format!("{name}: {N} values are needed, {count} are given")))
-}
-
-pub fn parsed<T: FromStr>(word: &str, what: &str) -> Result<T, Failure> {
+fn parsed<T: FromStr>(word: &str, what: &str) -> Result<T, Failure> {
     word.trim().parse().map_err(|_| Failure::usage(format!("'{word}' is not {what}")))
 }
 
-pub fn at_option(name: &str, failure: Failure) -> Failure {
+fn at_option(name: &str, failure: Failure) -> Failure {
     Failure::usage(format!("{name}: {failure}"))
 }

@@ -121,14 +121,6 @@ pub(crate) struct ZgyPosition {
     pub value: f64,
 }
 
-#[repr(C)]
-#[derive(Clone, Copy)]
-pub(crate) struct ZgyEdit {
-    pub number: u32,
-    pub entry: u32,
-    pub region: Region,
-}
-
 // The sizes that the header asserts.
 const _: () = assert!(size_of::<Description>() == 144);
 const _: () = assert!(size_of::<Grid>() == 32);
@@ -140,7 +132,6 @@ const _: () = assert!(size_of::<ZgyView>() == 32);
 const _: () = assert!(size_of::<ZgyString>() == 32);
 const _: () = assert!(size_of::<ZgyDone>() == 16);
 const _: () = assert!(size_of::<ZgyPosition>() == 16);
-const _: () = assert!(size_of::<ZgyEdit>() == 36);
 
 extern "C" {
     pub(crate) fn zgy_open(file: *const u8, file_length: usize) -> ZgyOpened;
@@ -177,19 +168,6 @@ extern "C" {
         cube: Record,
         region: Region,
     ) -> ZgyDone;
-    pub(crate) fn zgy_write_logged(
-        file: *mut u8,
-        file_length: usize,
-        log: *mut u8,
-        log_length: usize,
-        input: *const u8,
-        input_length: usize,
-        cube: Record,
-        region: Region,
-    ) -> ZgyDone;
-    pub(crate) fn zgy_undo(file: *mut u8, file_length: usize, log: *mut u8, log_length: usize, cube: Record, n: u32) -> ZgyDone;
-    pub(crate) fn zgy_log_edits(log: *const u8, log_length: usize, cube: Record) -> ZgyDone;
-    pub(crate) fn zgy_log_edit(log: *const u8, log_length: usize, cube: Record, n: u32) -> ZgyEdit;
     pub(crate) fn zgy_position(cube: Record, dimension: u32, index: u32) -> ZgyPosition;
     pub(crate) fn zgy_string(file: *const u8, file_length: usize, cube: Record, number: u32) -> ZgyString;
     pub(crate) fn zgy_make(

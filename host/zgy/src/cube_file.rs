@@ -1,8 +1,8 @@
 //! A file that opened as a cube.
 
 use crate::failure::Failure;
+use crate::mapped::Mapped;
 use std::path::{Path, PathBuf};
-use zgy::mapped::Mapped;
 use zgy::{Cube, Record, Refusal};
 
 pub struct CubeFile {

@@ -3,7 +3,6 @@
 use std::fmt;
 use std::io::{self, Write};
 use std::path::Path;
-use zgy::disk::Fault;
 use zgy::{Record, Refusal};
 
 pub struct Failure {
@@ -35,12 +34,6 @@ impl Failure {
 
     pub fn status(&self) -> u8 {
         self.status
-    }
-}
-
-impl From<Fault> for Failure {
-    fn from(fault: Fault) -> Self {
-        Failure { line: fault.to_string(), status: 1 }
     }
 }
 

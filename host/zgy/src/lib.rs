@@ -19,32 +19,8 @@
 //! assert_eq!(samples, [1.0, 0.0]);
 //! # Ok::<(), zgy::Refusal>(())
 //! ```
-//!
-//! A write may save in a log what it overwrites, and undoing the last n such writes gives the cube's bytes as they were before
-//! them, provided that nothing else has changed cube or log since ([`log`]). For cubes and logs in files, [`disk`] keeps an order
-//! in which that holds wherever an edit is stopped.
-//!
-//! ```
-//! # use zgy::{Cube, Description, Fill, Region};
-//! # let description = Description { side: [4; 3], size: [3, 4, 2], range: [0, 1.0f32.to_bits()], ..Description::default() };
-//! # let mut file = vec![0; 4096];
-//! # let length = Cube::make(&mut file, &description, b"\0\0\0\0\0", Fill::Stored)?;
-//! # file.truncate(length);
-//! # let cube = Cube::open(&file)?;
-//! # let trace = Region { level: 0, start: [1, 2, 0], count: [1, 1, 2] };
-//! let before = file.clone();
-//! let mut log = vec![0; 1000];
-//! cube.write_logged(&mut file, &mut log, trace, &[127, 128])?;
-//! assert_eq!(cube.edits(&log)?.collect::<Vec<_>>(), [trace]);
-//! cube.undo(&mut file, &mut log, 1)?;
-//! assert!(file == before && cube.log_edits(&log)? == 0);
-//! # Ok::<(), zgy::Refusal>(())
-//! ```
 
 mod boundary;
-pub mod disk;
-pub mod log;
-pub mod mapped;
 mod refusal;
 
 pub use boundary::{Description, Grid, Record, Region};

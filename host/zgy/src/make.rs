@@ -2,9 +2,9 @@
 
 use crate::arguments::Arguments;
 use crate::failure::{print, Failure};
+use crate::mapped::MappedMut;
 use std::fs::File;
 use std::path::Path;
-use zgy::mapped::MappedMut;
 use zgy::{Cube, Description, Fill, Record, Refusal};
 
 /// The number of a buffer that is too short.
@@ -99,6 +99,6 @@ fn write(path: &Path, length: u64, description: &Description, text: &[u8], fill:
     made.map(|_| ())
 }
 
-pub fn missing(what: &str) -> Failure {
+fn missing(what: &str) -> Failure {
     Failure::usage(format!("{what} is missing"))
 }

@@ -5,7 +5,6 @@ use std::fs::File;
 use std::io;
 use std::ops::{Deref, DerefMut};
 use std::os::fd::AsRawFd;
-use std::os::unix::fs::MetadataExt;
 use std::path::Path;
 use std::ptr;
 
@@ -13,15 +12,10 @@ const PROT_READ: c_int = 1;
 const PROT_WRITE: c_int = 2;
 const MAP_SHARED: c_int = 1;
 const MAP_PRIVATE: c_int = 2;
-const MS_SYNC: c_int = 4;
-
-/// What the system counts a file's room in.
-const BLOCK: u64 = 512;
 
 extern "C" {
     fn mmap(at: *mut c_void, length: usize, protection: c_int, flags: c_int, file: c_int, offset: i64) -> *mut c_void;
     fn munmap(at: *mut c_void, length: usize) -> c_int;
-    fn msync(at: *mut c_void, length: usize, flags: c_int) -> c_int;
     fn posix_fallocate(file: c_int, offset: i64, length: i64) -> c_int;
 }
 
@@ -64,30 +58,6 @@ impl MappedMut {
             error => return Err(io::Error::from_raw_os_error(error)),
         }
         Ok(MappedMut(Mapped::map(file, length, PROT_READ | PROT_WRITE, MAP_SHARED)?))
-    }
-
-    /// Maps a file as it is: what is changed here changes in the file. Where the file has gaps, the disk's room for them is taken
-    /// first, as for a new file.
-    pub fn shared(file: &File) -> io::Result<Self> {
-        let metadata = file.metadata()?;
-        match metadata.blocks().saturating_mul(BLOCK) < metadata.len() {
-            true => MappedMut::create(file, metadata.len()),
-            false => Ok(MappedMut(Mapped::map(file, metadata.len(), PROT_READ | PROT_WRITE, MAP_SHARED)?)),
-        }
-    }
-
-    /// Maps a file as it is, in a copy: what is changed here stays here. Only pages that are changed are copied.
-    pub fn private(file: &File) -> io::Result<Self> {
-        Ok(MappedMut(Mapped::map(file, file.metadata()?.len(), PROT_READ | PROT_WRITE, MAP_PRIVATE)?))
-    }
-
-    /// Returns when the changes are on the disk.
-    pub fn sync(&self) -> io::Result<()> {
-        let Mapped { at, length } = self.0;
-        if length > 0 && unsafe { msync(at.cast(), length, MS_SYNC) } != 0 {
-            return Err(io::Error::last_os_error());
-        }
-        Ok(())
     }
 }
 

@@ -6,7 +6,7 @@ use std::fmt;
 /// Why a call was not carried out. Nothing lent has changed.
 #[derive(Clone, Copy, Debug, PartialEq, Eq)]
 pub struct Refusal {
-    /// The number of the table: 1 to 20, and 22 to 24.
+    /// The number of the table: 1 to 20.
     pub number: u32,
     /// The lowest such entry of the brick table for 12, 13 and 19, else 0.
     pub entry: u32,
@@ -31,14 +31,11 @@ impl Refusal {
             13 => "a stored brick overlaps one of a lower entry",
             14 => "the record is not that of this file",
             15 => "there is no such level",
-            16 => "a count is 0, the region lies outside the extent, or there is no such dimension, index, entry or edit",
+            16 => "a count is 0, the region lies outside the extent, or there is no such dimension, index or entry",
             17 => "the filler is not the brick's value throughout",
             18 => "the lent buffer is too short",
             19 => "the write touches a brick that is not stored",
             20 => "the version 1 brick order has no such sides or item width",
-            22 => "the log is malformed, or holds an edit that this cube cannot have",
-            23 => "the log has no room left for this edit, or a count of it would pass 4,294,967,295",
-            24 => "the log holds fewer edits than are to be taken back",
             _ => "the library answered a number that is not in its table",
         }
     }

@@ -152,7 +152,7 @@ fn refusals_are_one_line_and_status_1() {
         1,
         "cube.zgy: refused 15: there is no such level; its levels are 0 to 0",
     );
-    let outside = "cube.zgy: refused 16: a count is 0, the region lies outside the extent, or there is no such dimension, index, entry or edit; \
+    let outside = "cube.zgy: refused 16: a count is 0, the region lies outside the extent, or there is no such dimension, index or entry; \
                    level 0 has 3 inlines, 4 crosslines and 2 samples, counted from 0";
     fails(&folder, &["trace", "cube.zgy", "3", "0"], 1, outside);
     fails(&folder, &["section", "cube.zgy", "--slice", "2", "-o", "out.pgm"], 1, outside);
@@ -174,122 +174,13 @@ fn a_refused_make_leaves_no_file_and_touches_none() {
     assert_eq!(fs::read(folder.join("new.zgy")).unwrap(), b"kept");
 }
 
-/// The stored samples of the cube that `sampled` makes, in a raw read's order.
-fn samples(folder: &Path) -> Vec<u8> {
-    let file = fs::read(folder.join("cube.zgy")).unwrap();
-    (0..12).flat_map(|trace| file[FIRST + 4 * trace..][..2].to_vec()).collect()
-}
-
-#[test]
-fn writes_are_logged_listed_and_taken_back() {
-    let folder = folder("edits");
-    sampled(&folder);
-    let before = fs::read(folder.join("cube.zgy")).unwrap();
-    let trace = ["write", "cube.zgy", "--region", "1,2,0:1,1,2", "--log", "edits.log"];
-    assert_eq!(said(&folder, &[&trace[..], &["--value", "-5"]].concat()), "cube.zgy: 2 bytes written\n");
-    assert_eq!(samples(&folder)[12..14], [0xFB, 0xFB]);
-    fs::write(folder.join("raw"), [1, 2, 3, 4, 5, 6]).unwrap();
-    let slab = ["write", "cube.zgy", "--region", "0,2,0:3,1,2", "--from", "raw", "--log", "edits.log"];
-    assert_eq!(said(&folder, &slab), "cube.zgy: 6 bytes written\n");
-    let now = samples(&folder);
-    assert_eq!([&now[4..6], &now[12..14], &now[20..22]], [[1, 2], [3, 4], [5, 6]]);
-    let list = "0 level 0 start 0 2 0 count 3 1 2 bytes 6\n1 level 0 start 1 2 0 count 1 1 2 bytes 2\n";
-    assert_eq!(said(&folder, &["log", "cube.zgy", "edits.log"]), list);
-    // Two heads of 28 bytes, two counts, and the samples: -128 + 10 i + 2 + 100 k, and -5 where it was written.
-    let log = fs::read(folder.join("edits.log")).unwrap();
-    assert_eq!(log[60..], [8, 0, 0, 0, 0x8C, 0xF0, 0x82, 0xE6, 0xFB, 0xFB, 0x96, 0xFA]);
-    assert_eq!(said(&folder, &["undo", "cube.zgy", "--log", "edits.log"]), "cube.zgy: 1 edit taken back, 6 bytes restored\n");
-    assert_eq!(samples(&folder)[12..14], [0xFB, 0xFB]);
-    said(&folder, &slab);
-    let both = said(&folder, &["undo", "cube.zgy", "--log", "edits.log", "-n", "2"]);
-    assert_eq!(both, "cube.zgy: 2 edits taken back, 8 bytes restored\n");
-    assert_eq!(fs::read(folder.join("cube.zgy")).unwrap(), before);
-    assert_eq!(fs::read(folder.join("edits.log")).unwrap(), vec![0; 72]);
-    assert_eq!(said(&folder, &["log", "cube.zgy", "edits.log"]), "");
-    let none = said(&folder, &["undo", "cube.zgy", "--log", "edits.log", "-n", "0"]);
-    assert_eq!(none, "cube.zgy: 0 edits taken back, 0 bytes restored\n");
-}
-
-#[test]
-fn writes_need_no_log() {
-    let folder = folder("unlogged");
-    sampled(&folder);
-    assert_eq!(said(&folder, &["write", "cube.zgy", "--region", "0,0,0:3,4,2", "--value", "7"]), "cube.zgy: 24 bytes written\n");
-    assert_eq!(samples(&folder), [7; 24]);
-    assert_eq!(fs::read_dir(&folder).unwrap().count(), 1);
-}
-
-#[test]
-fn values_are_those_of_the_type() {
-    let folder = folder("values");
-    for (kind, value, bytes) in [("int16", "-2", vec![0xFE, 0xFF]), ("float32", "-1.5", vec![0, 0, 0xC0, 0xBF])] {
-        let name = format!("{kind}.zgy");
-        said(&folder, &["make", &name, "--size", "5,4,4", "--side", "4,4,4", "--type", kind, "--range", "0,1", "--stored"]);
-        said(&folder, &["write", &name, "--region", "2,1,1:1,1,1", "--level", "1", "--value", value]);
-        // Level 1 is the first brick, and its item (2, 1, 1) number 37.
-        let file = fs::read(folder.join(&name)).unwrap();
-        let first = file.len() - 3 * 64 * bytes.len();
-        assert_eq!(file[first + 37 * bytes.len()..][..bytes.len()], bytes);
-    }
-    let write = |name, value| ["write", name, "--region", "0,0,0:1,1,1", "--value", value];
-    let not_int16 = "--value: '32768' is not an int16: a whole number from -32,768 to 32,767";
-    fails(&folder, &write("int16.zgy", "32768"), 2, not_int16);
-    fails(&folder, &write("float32.zgy", "much"), 2, "--value: 'much' is not a float32: a number");
-}
-
-#[test]
-fn refused_edits_change_nothing() {
-    let folder = folder("refused-edits");
-    sampled(&folder);
-    make(&folder, "constant.zgy", &[]);
-    let before = fs::read(folder.join("cube.zgy")).unwrap();
-    let write = |region, value| ["write", "cube.zgy", "--region", region, "--value", value, "--log", "edits.log"];
-    let outside = "cube.zgy: refused 16: a count is 0, the region lies outside the extent, or there is no such dimension, index, entry or edit; \
-                   level 0 has 3 inlines, 4 crosslines and 2 samples, counted from 0";
-    fails(&folder, &write("0,0,0:3,4,3", "1"), 1, outside);
-    fails(&folder, &write("0,0,0:4294967295,4294967295,4294967295", "1"), 1, outside);
-    let level = [&write("0,0,0:1,1,1", "1")[..], &["--level", "1"]].concat();
-    fails(&folder, &level, 1, "cube.zgy: refused 15: there is no such level; its levels are 0 to 0");
-    fails(&folder, &write("0,0,0:1,1,1", "128"), 2, "--value: '128' is not an int8: a whole number from -128 to 127");
-    fs::write(folder.join("raw"), [0; 23]).unwrap();
-    let from = |file| ["write", "cube.zgy", "--region", "0,0,0:3,4,2", "--from", file];
-    fails(&folder, &from("raw"), 1, "raw: it has 23 bytes, and the region 24");
-    fails(&folder, &from("none"), 1, "none: No such file or directory (os error 2)");
-    let constant = ["write", "constant.zgy", "--region", "0,0,0:1,1,1", "--value", "1", "--log", "edits.log"];
-    fails(&folder, &constant, 1, "constant.zgy: refused 19: the write touches a brick that is not stored (entry 0)");
-    assert!(!folder.join("edits.log").exists());
-    let undo = ["undo", "cube.zgy", "--log", "edits.log", "-n", "2"];
-    fails(&folder, &undo, 1, "edits.log: No such file or directory (os error 2)");
-    said(&folder, &write("0,0,0:1,1,1", "1"));
-    fails(&folder, &undo, 1, "edits.log: refused 24: the log holds fewer edits than are to be taken back; it holds 1");
-    let log = fs::read(folder.join("edits.log")).unwrap();
-    assert_eq!(log.len(), 37);
-    fs::write(folder.join("edits.log"), &log[..36]).unwrap();
-    let malformed = "edits.log: refused 22: the log is malformed, or holds an edit that this cube cannot have";
-    fails(&folder, &undo, 1, malformed);
-    fails(&folder, &["log", "cube.zgy", "edits.log"], 1, malformed);
-    fails(&folder, &write("0,0,0:1,1,1", "2"), 1, malformed);
-    fs::write(folder.join("edits.log"), &log).unwrap();
-    said(&folder, &undo[..4]);
-    assert_eq!(fs::read(folder.join("cube.zgy")).unwrap(), before);
-}
-
 #[test]
 fn a_wrong_command_line_is_status_2() {
     let folder = folder("usage");
-    fails(&folder, &["look"], 2, "there is no command 'look': info, section, trace, make, write, undo, log or help");
+    fails(&folder, &["look"], 2, "there is no command 'look': info, section, trace, make or help");
     fails(&folder, &["trace", "cube.zgy", "1", "-1"], 2, "'-1' is not a number from 0 to 4,294,967,295");
     fails(&folder, &["info", "cube.zgy", "more"], 2, "'more' does not belong here: see `zgy help`");
     fails(&folder, &["section", "cube.zgy", "-o", "out.pgm"], 2, "exactly one of --inline N, --crossline N and --slice N is needed");
     fails(&folder, &["make", "cube.zgy", "--size", "1,2", "--type", "int8"], 2, "--size: 3 values are needed, 2 are given");
-    fails(&folder, &["write", "cube.zgy", "--value", "1"], 2, "--region I,J,K:NI,NJ,NK is missing");
-    let region = ["write", "cube.zgy", "--region"];
-    let colon = "--region: '1,2,3' is not two lists with a colon between them";
-    fails(&folder, &[&region[..], &["1,2,3", "--value", "1"]].concat(), 2, colon);
-    fails(&folder, &[&region[..], &["1,2,3:1,1", "--value", "1"]].concat(), 2, "--region: 3 values are needed, 2 are given");
-    fails(&folder, &[&region[..], &["1,2,3:1,1,1"]].concat(), 2, "exactly one of --value V and --from RAW is needed");
-    fails(&folder, &["undo", "cube.zgy"], 2, "--log LOG is missing");
-    fails(&folder, &["undo", "cube.zgy", "--log", "l", "-n", "x"], 2, "-n: 'x' is not a number of edits");
-    fails(&folder, &["log", "cube.zgy"], 2, "something is missing: see `zgy help`");
     assert!(said(&folder, &["help"]).starts_with("zgy info FILE"));
 }

@@ -6,7 +6,7 @@ use lib.ListN.{length}
 use Rattle.record.specs.declared.Done.TheVariants as Done
 use Rattle.record.specs.declared.Verdict.TheVariants.{Taken}
 use Rattle.cube.specs.Regions.{float_verdict}
-use Rattle.cube.specs.Calls.{float_read_lem, floats}
+use Rattle.cube.specs.Calls.{float_read, floats}
 use Rattle.cube.proofs.Calls.{refused-answer, refused-buffers, taken-answer, taken_float}
 use borrow.Author.Rules.{rules}
 use Rattle.sampling.proofs.read_float.Statement.{statement}
@@ -36,14 +36,14 @@ returns c =
     let t = c.before.before.before.before in
     let a = t.before.before.before.before.before.args in
     let done = c.before.before.read_taken in (
-      ap Done.Taken done.ensures.0 ∙ sym (taken-answer a.r a.file.now (float_read_lem a.g a.out.now) (taken t)),
+      ap Done.Taken done.ensures.0 ∙ sym (taken-answer a.r a.file.now (float_read a.g a.out.now) (taken t)),
       ap (λ (x : List Float). floats x ∷ []) done.ensures.1 ∙ sym (taken_float a.r a.file.now a.g a.out.now (taken t)),
     )
 
 returns-2 : tie.Need-returns-2
 returns-2 c =
     let a = c.before.before.before.before.before.before.args in
-    let call = float_read_lem a.g a.out.now in
+    let call = float_read a.g a.out.now in
     let e = sym c.before.before.before.float-verdict.ensures ∙ c.before.verdict.given.1 in
     (sym (refused-answer a.r a.file.now _ call e), sym (refused-buffers a.r a.file.now _ call e))
 

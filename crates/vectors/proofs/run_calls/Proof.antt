@@ -1,16 +1,16 @@
--- `vectors::run_calls` is safe and ends. File and log keep their length; the measure is how many calls are left. Assumes nothing.
+-- `vectors::run_calls` is safe and ends. The file keeps its length; the measure is how many calls are left. Assumes nothing.
 use Rattle.std.proofs.Common.{◌≡◌, ◌-◌, length, refl, arith, rules}
 use Rattle.vectors.proofs.run_calls.Statement.{statement}
 use Rattle.vectors.proofs.run_calls.Tie as tie
 
 abbrev invariant-loop : tie.invariant-loop
-invariant-loop held₀ log₀ calls count s₀ i₀ held log s i = (length held ≡ length held₀) × (length log ≡ length log₀)
+invariant-loop held₀ calls count s₀ i₀ held s i = length held ≡ length held₀
 
 abbrev decreases-loop : tie.decreases-loop
-decreases-loop held₀ log₀ calls count s₀ i₀ held log s i = count - i
+decreases-loop held₀ calls count s₀ i₀ held s i = count - i
 
 loop-holds : tie.Need-loop-init invariant-loop decreases-loop
-loop-holds c = (refl, refl)
+loop-holds c = refl
 
 mul-call-at : tie.Need-overflow-mul-call-at invariant-loop decreases-loop
 mul-call-at c = omega arith
@@ -33,13 +33,10 @@ loop-again c = search rules
 same_length : tie.Need-same-length invariant-loop decreases-loop
 same_length c = search rules
 
-same-length-2 : tie.Need-same-length-2 invariant-loop decreases-loop
-same-length-2 c = search rules
-
 returns : tie.Need-returns invariant-loop decreases-loop
 returns c = tt
 
 pub run-calls-spec : {M : Type 1} → statement M
 run-calls-spec =
     tie.close
-    (tie.spec invariant-loop decreases-loop loop-holds mul-call-at call-at-requires step-requires add-i loop-less loop-again same_length same-length-2 returns)
+    (tie.spec invariant-loop decreases-loop loop-holds mul-call-at call-at-requires step-requires add-i loop-less loop-again same_length returns)

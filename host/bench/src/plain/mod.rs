@@ -2,7 +2,6 @@
 //! bytes. They are what the library's times are divided by, and nothing else uses them.
 
 pub mod layout;
-pub mod logs;
 pub mod open;
 pub mod others;
 pub mod regions;

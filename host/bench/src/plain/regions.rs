@@ -218,14 +218,6 @@ pub fn write(file: &mut [u8], input: &[u8], cube: &Record, region: &Region, orde
     Ok(plan.samples() * w)
 }
 
-/// The checks of a write, and none of it.
-pub fn check_write(file: &[u8], room: usize, cube: &Record, region: &Region) -> Result<(), Refusal> {
-    check_record(cube, file)?;
-    let plan = Plan::new(table(file, cube), cube, region, Order::Bricks, room, cube.item_bytes())?;
-    plan.check_range(cube)?;
-    plan.check_stored()
-}
-
 #[inline(never)]
 pub fn read_float(out: &mut [f64], file: &[u8], cube: &Record, region: &Region, order: Order) -> Result<usize, Refusal> {
     check_record(cube, file)?;

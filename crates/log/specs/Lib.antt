@@ -1,2 +1,0 @@
--- The definitions that the contracts of log cite; the log's own are cube's.
-pub mod Facts
