@@ -1,4 +1,6 @@
 // Brick kind and brick view, by entry number.
+#![tactic(auto)]
+
 ghost use Rattle.std.specs.Prelude.{◌≡◌, ◌*◌, ◌^◌, ◌<◌, ◌≤◌, length};
 ghost use Rattle.record.specs.Types.{width_of, value_of};
 ghost use Rattle.record.specs.declared.Verdict.TheVariants.{Taken};
@@ -16,7 +18,7 @@ use record::{Coding, Record, Refusal, Verdict, coding_of, refuse, refuse_at};
 use table::{Kind, kind_at, out_of_range, table_in};
 
 // What a brick is. A constant is the storage value, unscaled; a stored brick has its offset in the file.
-#[derive(Drop)]
+#[derive(Clone, Copy)]
 pub enum Brick {
     Missing,
     Constant(f64),
@@ -24,7 +26,7 @@ pub enum Brick {
 }
 
 // What brick kind answers.
-#[derive(Drop)]
+#[derive(Clone, Copy)]
 pub enum Found {
     Known(Brick),
     Refused(Refusal),

@@ -1,5 +1,7 @@
 // Checks 2 to 9, 11 and 14 of FORMAT 9.2. A test joins its parts by `|` and `&`, plain operations on bools, so
 // that it is its definition as it stands.
+#![tactic(auto)]
+
 ghost use Rattle.std.specs.Prelude.{◌≡◌, Bool, not, ◌&&◌, ◌≤◌, ◌<◌, length};
 ghost use Rattle.geometry.specs.Limits.{longest_text};
 ghost use Rattle.floats.specs.Rules.{finite_bits};

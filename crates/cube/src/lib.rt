@@ -1,4 +1,6 @@
 // Regions of an opened cube, and what a missing brick reads as. What a place holds, what a call answers and what it leaves is said in specs/.
+#![tactic(auto)]
+
 ghost use Rattle.std.specs.Prelude.{◌≡◌};
 ghost use Rattle.cube.specs.Places.{missing_brick};
 
@@ -6,7 +8,7 @@ use record::Record;
 
 // A box of samples of one level: where it starts and how many it has, inline, crossline, vertical.
 #[repr(C)]
-#[derive(Drop)]
+#[derive(Clone, Copy)]
 pub struct Region {
     pub level: u32,
     pub start: [u32; 3],
@@ -14,7 +16,7 @@ pub struct Region {
 }
 
 // What a missing brick reads as: the unsigned number of an item's bytes, and the float.
-#[derive(Drop)]
+#[derive(Clone, Copy)]
 pub struct MissingBrick {
     pub value: u32,
     pub float: f64,

@@ -1,4 +1,6 @@
 // Little-endian numbers at a place of a lent slice, and the leaf that copies one slice into another.
+#![tactic(auto)]
+
 ghost use Rattle.std.specs.Prelude.{◌≡◌, ◌+◌, ◌*◌, ◌<◌, ◌≤◌, length, get_or};
 ghost use Rattle.endian.specs.Bytes.{le, peek, put};
 

@@ -1,4 +1,6 @@
 // The float rules: fields and samples from their bits, the coding range, position, and the survey size.
+#![tactic(auto)]
+
 ghost use Rattle.std.specs.Prelude.{◌≡◌, ◌-◌, ◌*◌, ◌<◌, ◌≤◌, T, pos, neg_ℤ, from_bits};
 ghost use Rattle.std.specs.Float.{binary32};
 ghost use Rattle.geometry.specs.Limits.{size_limit};

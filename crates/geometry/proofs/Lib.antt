@@ -2,3 +2,4 @@
 pub mod Powers
 pub mod Levels
 pub mod Entries
+pub mod ShapeOf

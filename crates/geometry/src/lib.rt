@@ -1,5 +1,7 @@
 // Levels, brick counts, extents, entry numbers and the header's end, on numbers alone.
 // These are inner leaves: callers have checked sides and sizes before, so that nothing here can wrap.
+#![tactic(auto)]
+
 ghost use Rattle.std.specs.Prelude.{◌≡◌, ◌+◌, ◌*◌, ◌^◌, ◌≤◌, ◌<◌};
 ghost use Rattle.endian.specs.Loops.{sum_to};
 ghost use Rattle.geometry.specs.Limits.{greatest_exponent, power_in, level_cap, longest_text, side_room, bytes_room, brick_room};
@@ -24,7 +26,7 @@ pub const SHORTEST_TEXT: u32 = 5;
 pub const LONGEST_TEXT: u32 = 65536;
 
 // Levels, and the bricks and alpha tiles of all levels.
-#[derive(Drop)]
+#[derive(Clone, Copy)]
 pub struct Shape {
     pub levels: u64,
     pub bricks: u64,
@@ -32,7 +34,7 @@ pub struct Shape {
 }
 
 // What numbers the bricks of a level: the entries before it, and its bricks inline and crossline.
-#[derive(Drop)]
+#[derive(Clone, Copy)]
 pub struct Level {
     pub base: u64,
     pub inline: u64,

@@ -1,4 +1,6 @@
 // Lists the cube on standard input.
+#![tactic(auto)]
+
 use libc::{STDIN_FILENO, STDOUT_FILENO};
 
 // The first array takes a byte more than a listed file has, so that a longer one shows. A listed file

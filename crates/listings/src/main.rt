@@ -1,4 +1,6 @@
 // Lists the files that its arguments name, each after a line with its name.
+#![tactic(auto)]
+
 use libc::STDOUT_FILENO;
 
 // The listing of an open file. The arrays are those of the program `listing`.

@@ -2,6 +2,8 @@
 //
 // The sections are written one after the other. Each function writes from the place `at` on and
 // answers the place after its bytes, as those of `text` do.
+#![tactic(auto)]
+
 ghost use Rattle.std.specs.Prelude.{◌≡◌, ◌+◌, ◌*◌, ◌<◌, min, length};
 ghost use Rattle.endian.specs.Loops.{cat};
 ghost use Rattle.endian.specs.Bytes.{lows};
@@ -20,14 +22,14 @@ use record::{Description, Done, Verdict, brick_bytes_in, refuse, shape_in};
 use text::{push, push_bytes};
 
 // What the bricks of a made cube are: all constant zero, or all stored and zero filled.
-#[derive(Drop)]
+#[derive(Clone, Copy)]
 pub enum Fill {
     Constant,
     Stored,
 }
 
 // The numbers that a made cube follows from.
-#[derive(Drop)]
+#[derive(Clone, Copy)]
 pub struct Plan {
     pub alphas: u64,
     pub bricks: u64,

@@ -1,4 +1,6 @@
 // Opening a lent cube: checks 1 to 13, and the record.
+#![tactic(auto)]
+
 ghost use Rattle.std.specs.Prelude.{◌≡◌, ◌≤◌, length};
 ghost use Rattle.record.specs.Record.{header_of};
 ghost use Rattle.table.specs.Entries.{Derived};
@@ -12,7 +14,7 @@ use record::{Record, Verdict, description_at, no_record, record_of, refuse, refu
 use table::{lowest_out_of_range, lowest_overlap, table_in};
 
 // What opening answers. A verdict that refuses stands beside a record of zeros.
-#[derive(Drop)]
+#[derive(Clone, Copy)]
 pub struct Opened {
     pub verdict: Verdict,
     pub cube: Record,

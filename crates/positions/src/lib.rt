@@ -1,4 +1,6 @@
 // Position of an index along a dimension at level 0.
+#![tactic(auto)]
+
 ghost use Rattle.std.specs.Prelude.{◌≡◌};
 ghost use Rattle.positions.specs.Positions.{refused_by, position_answer, PositionNear};
 
@@ -6,7 +8,7 @@ use checks::check14;
 use record::{Record, Refusal};
 
 // What position answers.
-#[derive(Drop)]
+#[derive(Clone, Copy)]
 pub enum Located {
     At(f64),
     Refused(Refusal),

@@ -1,6 +1,8 @@
 // Raw reads: the bytes of a region's samples, vertical fastest and inline slowest, into the front of a lent buffer.
 // The region is read brick by brick: one entry is looked up for each brick that it touches, and of each brick a box is copied,
 // row by row. So the work grows with the region alone.
+#![tactic(auto)]
+
 ghost use Rattle.std.specs.Prelude.{[], ◌∷◌, ◌≡◌, ℕ, ◌+◌, ◌*◌, ◌≤◌, ◌<◌, length};
 ghost use Rattle.endian.specs.Loops.{cat};
 ghost use Rattle.endian.specs.Bytes.{lows};

@@ -1,4 +1,6 @@
 // The record of an opened cube, the description in a header's bytes, and what a type number says.
+#![tactic(auto)]
+
 ghost use Rattle.std.specs.Prelude.{◌≡◌, ◌+◌, ◌≤◌, length};
 ghost use Rattle.geometry.specs.Limits.{text_start, longest_text, bytes_room, brick_room};
 ghost use Rattle.geometry.specs.Geometry.{shape_of};
@@ -13,28 +15,28 @@ use geometry::{Shape, brick_bytes, header_end, shape_of};
 
 // A refusal: the number of the table, and the lowest such entry for 12, 13 and 19, else 0.
 #[repr(C)]
-#[derive(Drop)]
+#[derive(Clone, Copy)]
 pub struct Refusal {
     pub number: u32,
     pub entry: u32,
 }
 
 // Whether a call is carried out.
-#[derive(Drop)]
+#[derive(Clone, Copy)]
 pub enum Verdict {
     Taken,
     Refused(Refusal),
 }
 
 // What a call answers that moves bytes or floats, or makes a cube: how many it moved or made, or its refusal.
-#[derive(Drop)]
+#[derive(Clone, Copy)]
 pub enum Done {
     Taken(u64),
     Refused(Refusal),
 }
 
 // What a type number says: the item's width in bytes and its decode rule, or a refusal.
-#[derive(Drop)]
+#[derive(Clone, Copy)]
 pub enum Coding {
     // Signed integers from -half to half - 1, scaled to the coding range.
     Scaled { width: u32, half: u32 },
@@ -45,7 +47,7 @@ pub enum Coding {
 
 // What a cube is made from: the header's fields but version and text length, floats and factors as bits.
 #[repr(C)]
-#[derive(Drop)]
+#[derive(Clone, Copy)]
 pub struct Description {
     pub side: [u32; 3],
     pub datatype: u8,
@@ -65,7 +67,7 @@ pub struct Description {
 
 // Orig, inc and coding range as floats; the range of type 6 is 0, 0.
 #[repr(C)]
-#[derive(Drop)]
+#[derive(Clone, Copy)]
 pub struct Grid {
     pub orig: [f32; 3],
     pub inc: [f32; 3],
@@ -75,7 +77,7 @@ pub struct Grid {
 
 // What opening says of a cube. Header is where the headers end; length is the file's.
 #[repr(C)]
-#[derive(Drop)]
+#[derive(Clone, Copy)]
 pub struct Record {
     pub version: u32,
     pub description: Description,

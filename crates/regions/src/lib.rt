@@ -1,5 +1,7 @@
 // The checks of a call on a region, in the order of FORMAT 10.1: 14, 15, 16, 18, 12 over the touched entries, then 19 for writes.
 // All are done before a byte moves. Their cost grows with the bricks that the region touches, never with the cube.
+#![tactic(auto)]
+
 ghost use Rattle.std.specs.Prelude.{◌≡◌, true, ◌&&◌, ◌+◌, ◌*◌, ◌≤◌, ◌<◌, leb, length};
 ghost use Rattle.geometry.specs.Limits.{size_limit, level_cap};
 ghost use Rattle.geometry.specs.Geometry.{extent};
@@ -18,21 +20,21 @@ use runs::{index, level_in, over};
 use table::{Kind, Table, kind_at, out_of_range, table_in};
 
 // What a search over entries finds: the first that fails, or none.
-#[derive(Drop)]
+#[derive(Clone, Copy)]
 enum Found {
     At(u32),
     Nothing,
 }
 
 // The bricks that a run of samples touches in a direction.
-#[derive(Drop)]
+#[derive(Clone, Copy)]
 struct Along {
     first: u64,
     span: u64,
 }
 
 // The entries that a region touches: the first, how many in each direction, and how far apart neighbours are.
-#[derive(Drop)]
+#[derive(Clone, Copy)]
 struct Block {
     first: u64,
     inline: u64,

@@ -1,6 +1,8 @@
 // The listing of a file: what opening says of it, and a line for each brick, as text in a slice that the caller lends.
 //
 // Each function writes from the place `at` on and answers the place after its text, as those of `text` do.
+#![tactic(auto)]
+
 ghost use Rattle.std.specs.Prelude.{◌≤◌, length};
 ghost use Rattle.text.specs.Text.{Pours};
 ghost use Rattle.record.specs.Record.{header_of};

@@ -1,5 +1,7 @@
 // Vertical runs: where the samples of a region lie in the bricks of its level. Raw reads, float reads and writes share this.
 // A record and a region that stand beside a lattice are what its promises are stated in; the code works with the lattice alone.
+#![tactic(auto)]
+
 ghost use Rattle.std.specs.Prelude.{◌≡◌, true, ◌+◌, ◌-◌, ◌/◌, ◌%◌, ◌<◌, ◌≤◌, min, length};
 ghost use Rattle.checks.specs.Checks.{side_ok};
 ghost use Rattle.record.specs.Record.{side_of, levels_of, bricks_of, Sized};
@@ -13,7 +15,7 @@ use record::{Description, Record, width_of};
 use table::{Kind, Table, kind_at, table_in};
 
 // A region among the bricks of its level, worked out once for a call.
-#[derive(Drop)]
+#[derive(Clone, Copy)]
 pub struct Lattice {
     // The brick table, and what numbers the bricks of the level.
     pub table: Table,

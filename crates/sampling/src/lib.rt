@@ -1,4 +1,6 @@
 // The float read: the samples of a region as 64-bit floats, into a lent slice, brick by brick as in a raw read.
+#![tactic(auto)]
+
 ghost use Rattle.std.specs.Prelude.{[], ◌∷◌, ◌≡◌, ℕ, ◌+◌, ◌*◌, ◌^◌, ◌≤◌, ◌<◌, length};
 ghost use Rattle.endian.specs.Loops.{cat};
 ghost use Rattle.endian.specs.Bytes.{peek};
@@ -22,7 +24,7 @@ use runs::{Lattice, at_once, item_on, kind_on, lattice_of, left};
 use table::Kind;
 
 // The coding range, widened once for a call.
-#[derive(Drop)]
+#[derive(Clone, Copy)]
 struct Range {
     min: f64,
     max: f64,

@@ -1,5 +1,7 @@
 // The five strings of a cube's text section: a walker that hands them out in turn. The functions over the walker are thin;
 // what they do stands in functions on a slice and a place.
+#![tactic(auto)]
+
 ghost use Rattle.std.specs.Prelude.{◌≡◌, ◌≤◌, length};
 ghost use Rattle.strings.specs.Strings.{strings_verdict, text_in, end_of, string_at, turn_of, turn_by, turn_in, place_of};
 ghost use Rattle.strings.specs.Five.{FiveStrings};
@@ -10,7 +12,7 @@ use record::{Record, Refusal, Verdict, refuse};
 
 // A walker over the strings of a text section: whether the walk is taken, the section, which is empty where it is
 // refused, and the place where the next string starts.
-#[derive(Drop)]
+#[derive(Clone, Copy)]
 pub struct Strings<'a> {
     pub verdict: Verdict,
     pub text: &'a [u8],
@@ -19,7 +21,7 @@ pub struct Strings<'a> {
 
 // What a walker finds at its place: the string from start up to, not including, end, with the next one at next; or
 // that all strings are handed out; or that the walk is refused.
-#[derive(Drop)]
+#[derive(Clone, Copy)]
 pub enum Turn {
     Item {
         start: usize,

@@ -1,4 +1,6 @@
 // The brick table: where it is, what each entry names, that it lies in the file (check 12), and that no two share a byte (check 13).
+#![tactic(auto)]
+
 ghost use Rattle.std.specs.Prelude.{◌≡◌, ◌+◌, ◌-◌, ◌*◌, ◌/◌, ◌%◌, ◌^◌, ◌≤◌, ◌<◌, min, length};
 ghost use Rattle.endian.specs.Loops.{first};
 ghost use Rattle.table.specs.Entries.{kind_of, word_at, kind_at, outside_at, overlaps_at, table_in, Width, Derived, Readable};
@@ -9,7 +11,7 @@ use geometry::table_start;
 use record::{Record, brick_bytes_in, width_of};
 
 // What an entry names. A constant's value is the unsigned number of its low item bytes.
-#[derive(Drop)]
+#[derive(Clone, Copy)]
 pub enum Kind {
     Missing,
     Constant(u32),
@@ -18,7 +20,7 @@ pub enum Kind {
 
 // The brick table of a cube: where it starts and how many entries it has, with what an entry is judged by: where the
 // headers end, and the bytes of a brick and of an item.
-#[derive(Drop)]
+#[derive(Clone, Copy)]
 pub struct Table {
     pub start: usize,
     pub count: usize,

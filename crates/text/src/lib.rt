@@ -2,6 +2,8 @@
 //
 // Each function writes its bytes from the place `at` on, leaves out what does not fit, and answers
 // the place after them. So a caller hands each answer to the next call, and looks at the end once.
+#![tactic(auto)]
+
 
 ghost use Rattle.std.specs.Prelude.{◌≡◌, ◌∷◌, [], min};
 ghost use Rattle.floats.specs.Rules.{signed_of};

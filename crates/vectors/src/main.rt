@@ -1,5 +1,7 @@
 // Runs the library on cubes and lists of calls, and writes what each call answers. The arguments name them in pairs: a
 // cube, and its calls. A list of calls has eight 32-bit numbers for each, the first of them saying which call it is.
+#![tactic(auto)]
+
 mod answers;
 mod buffers;
 mod fields;
@@ -20,7 +22,7 @@ use opening::open;
 use record::{Record, Verdict};
 
 // What the calls of a list share: the record, how many bytes of the file are lent, the room of the buffers, the seed.
-#[derive(Drop)]
+#[derive(Clone, Copy)]
 struct Setting {
     record: Record,
     lent: usize,
@@ -29,7 +31,7 @@ struct Setting {
 }
 
 // Which call, and its arguments.
-#[derive(Drop)]
+#[derive(Clone, Copy)]
 struct Call {
     which: u32,
     words: [u32; 7],

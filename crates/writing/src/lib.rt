@@ -1,5 +1,7 @@
 // Writes: lent bytes into the stored bricks of a region, in a raw read's order: vertical fastest and inline slowest.
 // All checks are done before the first byte is stored. The work grows with the region alone.
+#![tactic(auto)]
+
 ghost use Rattle.std.specs.Prelude.{◌≡◌, ◌+◌, ◌*◌, ◌≤◌, ◌<◌, length};
 ghost use Rattle.endian.specs.Loops.{tri};
 ghost use Rattle.endian.specs.Bytes.{peek, put};

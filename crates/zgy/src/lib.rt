@@ -1,5 +1,7 @@
 // The promises about opened cubes as a whole. The functions of the statements do nothing: the contract is the statement, proved.
 // Those of the calls hand them on, and say that what happened is an event as the demands mean it.
+#![tactic(auto)]
+
 ghost use Rattle.std.specs.Prelude.{[], ◌∷◌};
 ghost use Rattle.cube.specs.Calls.{Call, raw_read, float_read, raw, floats};
 ghost use Rattle.zgy.specs.Refusals.{EveryCallRefusesByNumber};

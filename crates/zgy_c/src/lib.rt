@@ -1,5 +1,7 @@
 // The calls of the library for C hosts: each hands its arguments on and answers a plain struct, since no enum crosses the
 // boundary. Number 0 says that a call is taken; any other number is the refusal, and entry its second number.
+#![tactic(auto)]
+
 ghost use Rattle.std.specs.Prelude.{[], ◌∷◌, ◌≡◌, length, get_or};
 ghost use Rattle.endian.specs.Bytes.{peek};
 ghost use Rattle.record.specs.Answers.{number_of, second_of};
@@ -28,7 +30,7 @@ use writing::write;
 
 // What opening answers; a refusal stands beside a record of zeros.
 #[repr(C)]
-#[derive(Drop)]
+#[derive(Clone, Copy)]
 pub struct ZgyOpened {
     pub number: u32,
     pub entry: u32,
@@ -37,7 +39,7 @@ pub struct ZgyOpened {
 
 // What brick kind answers: 0 missing, 1 constant with its value, 2 stored with its offset.
 #[repr(C)]
-#[derive(Drop)]
+#[derive(Clone, Copy)]
 pub struct ZgyKind {
     pub number: u32,
     pub entry: u32,
@@ -48,7 +50,7 @@ pub struct ZgyKind {
 
 // Where a brick is shown: source 0 nowhere, 1 in the file, 2 in the filler.
 #[repr(C)]
-#[derive(Drop)]
+#[derive(Clone, Copy)]
 pub struct ZgyView {
     pub number: u32,
     pub entry: u32,
@@ -59,7 +61,7 @@ pub struct ZgyView {
 
 // What a call answers that moves bytes or floats, or makes a cube: how many it moved or made.
 #[repr(C)]
-#[derive(Drop)]
+#[derive(Clone, Copy)]
 pub struct ZgyDone {
     pub number: u32,
     pub entry: u32,
@@ -68,7 +70,7 @@ pub struct ZgyDone {
 
 // What position answers.
 #[repr(C)]
-#[derive(Drop)]
+#[derive(Clone, Copy)]
 pub struct ZgyPosition {
     pub number: u32,
     pub entry: u32,
@@ -77,7 +79,7 @@ pub struct ZgyPosition {
 
 // Where a string stands in the file; found 0 says that there is none, as all are handed out.
 #[repr(C)]
-#[derive(Drop)]
+#[derive(Clone, Copy)]
 pub struct ZgyString {
     pub number: u32,
     pub entry: u32,
