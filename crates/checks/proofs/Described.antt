@@ -159,11 +159,16 @@ fits_as d t v g n = go v (breaks4 d) (verdict5 d) (breaks6 d) (breaks7 d) (break
         → not v && is_taken (cond a (refused 4) (and_then b (cond c (refused 6) (cond d (refused 7) (cond e (refused 8) (cond f (refused 9) Taken)))))) && g && n
         ≡ cond (v || f) false (cond (is_taken b && not (a || c || d)) (g && (not e && n)) false)
     go true a b c d e f g n = refl
-    go false true Taken c d e f g n = elim f [ true ↦ refl | false ↦ refl ]
-    go false true (Refused x) c d e f g n = elim f [ true ↦ refl | false ↦ refl ]
-    go false false (Refused x) c d e f g n = elim f [ true ↦ refl | false ↦ refl ]
-    go false false Taken true d e f g n = elim f [ true ↦ refl | false ↦ refl ]
-    go false false Taken false true e f g n = elim f [ true ↦ refl | false ↦ refl ]
+    go false true Taken c d e true g n = refl
+    go false true Taken c d e false g n = refl
+    go false true (Refused x) c d e true g n = refl
+    go false true (Refused x) c d e false g n = refl
+    go false false (Refused x) c d e true g n = refl
+    go false false (Refused x) c d e false g n = refl
+    go false false Taken true d e true g n = refl
+    go false false Taken true d e false g n = refl
+    go false false Taken false true e true g n = refl
+    go false false Taken false true e false g n = refl
     go false false Taken false false true true g n = refl
     go false false Taken false false true false true n = refl
     go false false Taken false false true false false n = refl
