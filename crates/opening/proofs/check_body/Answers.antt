@@ -1,0 +1,33 @@
+use mathlib.Core.Path.{◌≡◌, sym, ap, ◌∙◌}
+use native.Mathlib.Omega.{arith}
+use lib.ListN.{length-take, length-drop}
+use Rattle.record.proofs.Laws.{text_part}
+use Rattle.record.specs.Header.{text_of}
+use Rattle.checks.specs.Checks.{breaks11}
+use Rattle.checks.proofs.Described.{described_text}
+use Rattle.table.proofs.Tables.{derived, header_table}
+use Rattle.opening.proofs.Answers.{body_10, body_11, body_rest}
+use Rattle.opening.proofs.Header.{text_before}
+use Rattle.std.proofs.lemmas.Grind.{common_steps}
+use Rattle.opening.proofs.check_body.Goals as goal
+
+pub returns-then-length-header : goal.returns-then-length-header
+returns-then-length-header c = c.refuse.ensures ∙ body_10 _ _ (rw c.requires.header_is at c.if-length-header.true)
+
+pub slice_bounds-check11-end : goal.slice_bounds-check11-end
+slice_bounds-check11-end c = grind (arith, common_steps)
+
+pub check11-requires : goal.check11-requires
+check11-requires c =
+            let t = described_text _ _ (derived c.args.r c.requires) in
+    simp (length-take, length-drop) (omega (arith, c.requires.header_is, text_before c.args.r.description c.args.r.text, header_table c.args.r.description c.args.r.text))
+
+pub returns-then-check11 : goal.returns-then-check11
+returns-then-check11 c =
+    let judged : c.check11.result ≡ breaks11 (text_of c.args.file.now c.args.r.text) = c.check11.ensures ∙ ap breaks11 (text_part c.args.file.now c.args.r.text) in
+    c.refuse-then-check11.ensures ∙ body_11 _ _ (rw c.requires.header_is at c.if-length-header.false) (sym judged ∙ c.if-check11.true)
+
+pub returns : goal.returns
+returns c =
+    let judged : c.check11.result ≡ breaks11 (text_of c.args.file.now c.args.r.text) = c.check11.ensures ∙ ap breaks11 (text_part c.args.file.now c.args.r.text) in
+    c.check_entries.ensures ∙ body_rest _ _ (rw c.requires.header_is at c.if-length-header.false) (sym judged ∙ c.if-check11.false)

@@ -1,0 +1,59 @@
+use mathlib.Core.Bool.{false}
+use mathlib.Core.Path.{◌≡◌, sym, ap, ap₂, ◌∙◌}
+use native.Mathlib.Omega.{arith}
+use Rattle.record.specs.Header.{version_of, text_length_of}
+use Rattle.record.specs.declared.Verdict.TheVariants.{Taken}
+use Rattle.checks.specs.Checks.{breaks2, breaks3, described}
+use Rattle.checks.proofs.Described.{described-all, described_sized, described-few, described_text}
+use Rattle.opening.specs.Opening.{header_verdict, record_in}
+use Rattle.opening.proofs.Header.{header_1, header_2, header_3, header_rest, made_derived}
+use Rattle.opening.proofs.Answers.{opened_early, opened_body}
+use Rattle.opening.proofs.open.Goals as goal
+
+pub returns-then-file-lt-TEXT_START : goal.returns-then-file-lt-TEXT_START
+returns-then-file-lt-TEXT_START c = c.answer.ensures ∙ rw c.refuse.ensures (opened_early _ _ (header_1 _ c.if-file-lt-TEXT_START.true))
+
+pub returns-then-check2 : goal.returns-then-check2
+returns-then-check2 c =
+        c.answer-then-check2.ensures
+    ∙ rw c.refuse-then-check2.ensures (opened_early _ _ (header_2 _ c.if-file-lt-TEXT_START.false (sym c.check2.ensures ∙ c.if-check2.true)))
+
+pub returns-then-check3 : goal.returns-then-check3
+unfolding version_of
+returns-then-check3 c =
+    let not2 : breaks2 c.args.file.now ≡ false = sym c.check2.ensures ∙ c.if-check2.false in
+    let version-is : c.check3.result ≡ breaks3 (version_of c.args.file.now) = c.check3.ensures ∙ ap breaks3 c.u32_at-version.ensures in
+    c.answer-then-check3.ensures
+    ∙ rw c.refuse-then-check3.ensures
+    (opened_early _ _ (header_3 _ c.if-file-lt-TEXT_START.false not2 (sym version-is ∙ c.if-check3.true)))
+
+pub record_of-r-requires : goal.record_of-r-requires
+record_of-r-requires c =
+    let passes : described c.description_at-d.result c.u32_at-text.result ≡ Taken = sym c.check_description-verdict.ensures ∙ c.in-Taken.is in
+    let h = described-all _ _ passes in
+    (described_sized _ _ h, omega (arith, described-few _ _ h), omega (arith, described_text _ _ h))
+
+pub check_body-requires : goal.check_body-requires
+check_body-requires c =
+    let passes : described c.description_at-d.result c.u32_at-text.result ≡ Taken = sym c.check_description-verdict.ensures ∙ c.in-Taken.is in
+    rw c.record_of-r.ensures (made_derived _ _ _ _ passes)
+
+pub returns-in-Refused : goal.returns-in-Refused
+unfolding version_of text_length_of
+returns-in-Refused c =
+    let not2 : breaks2 c.args.file.now ≡ false = sym c.check2.ensures ∙ c.if-check2.false in
+    let version-is : c.check3.result ≡ breaks3 (version_of c.args.file.now) = c.check3.ensures ∙ ap breaks3 c.u32_at-version.ensures in
+    let header_is : header_verdict c.args.file.now ≡ c.check_description-verdict.result = header_rest _ c.if-file-lt-TEXT_START.false not2 (sym version-is ∙ c.if-check3.false)
+    ∙ sym (c.check_description-verdict.ensures ∙ ap₂ described c.description_at-d.ensures c.u32_at-text.ensures) in
+    c.answer-in-Refused.ensures ∙ rw c.in-Refused.is (opened_early _ _ (header_is ∙ c.in-Refused.is))
+
+pub returns-in-Taken : goal.returns-in-Taken
+unfolding version_of text_length_of record_in
+returns-in-Taken c =
+    let not2 : breaks2 c.args.file.now ≡ false = sym c.check2.ensures ∙ c.if-check2.false in
+    let version-is : c.check3.result ≡ breaks3 (version_of c.args.file.now) = c.check3.ensures ∙ ap breaks3 c.u32_at-version.ensures in
+    let header_is : header_verdict c.args.file.now ≡ c.check_description-verdict.result = header_rest _ c.if-file-lt-TEXT_START.false not2 (sym version-is ∙ c.if-check3.false)
+    ∙ sym (c.check_description-verdict.ensures ∙ ap₂ described c.description_at-d.ensures c.u32_at-text.ensures) in
+    let record_is : c.record_of-r.result ≡ record_in c.args.file.now = c.record_of-r.ensures ∙ rw (c.u32_at-version.ensures, c.description_at-d.ensures, c.u32_at-text.ensures) in
+    c.answer-in-Taken.ensures
+    ∙ rw c.check_body.ensures (opened_body _ _ (header_is ∙ c.in-Taken.is) record_is)
