@@ -8,14 +8,14 @@ use Rattle.checks.proofs.Described.{described_text}
 use Rattle.table.proofs.Tables.{derived, header_table}
 use Rattle.opening.proofs.Answers.{body_10, body_11, body_rest}
 use Rattle.opening.proofs.Header.{text_before}
-use Rattle.std.proofs.lemmas.Grind.{common_steps}
 use Rattle.opening.proofs.check_body.Goals as goal
 
 pub returns-then-length-header : goal.returns-then-length-header
 returns-then-length-header c = c.refuse.ensures ∙ body_10 _ _ (rw c.requires.header_is at c.if-length-header.true)
 
 pub slice_bounds-check11-end : goal.slice_bounds-check11-end
-slice_bounds-check11-end c = grind (arith, common_steps)
+slice_bounds-check11-end c =
+        omega (arith, c.requires.header_is, text_before c.args.r.description c.args.r.text, header_table c.args.r.description c.args.r.text)
 
 pub check11-requires : goal.check11-requires
 check11-requires c =
