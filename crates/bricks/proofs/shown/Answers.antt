@@ -5,7 +5,7 @@ use lib.ListN.{length}
 use Rattle.table.specs.Entries.{kind_in}
 use Rattle.table.proofs.Tables.{brick-is, kind_is}
 use Rattle.bricks.proofs.Entries.{Seen, seen, seen_derived, seen_in, stored_in}
-use Rattle.bricks.proofs.Views.{view_parts, missing-long, view_kind, shows_file, shows_filler}
+use Rattle.bricks.proofs.Views.{view_parts, missing-long, constant_long, view_kind, shows_file, shows_filler}
 use Rattle.bricks.proofs.shown.Goals as goal
 
 pub table_in-t-requires : goal.table_in-t-requires
@@ -24,6 +24,12 @@ slice_bounds-result-end c =
     let l = missing-long _ _ _ _ c.requires (sym named ∙ c.in-Missing.is) in
     omega (arith, brick-is _ _ c.table_in-t.ensures)
 
+pub slice_bounds-result-end-in-Constant : goal.slice_bounds-result-end-in-Constant
+slice_bounds-result-end-in-Constant c =
+    let named : c.kind_at-kind.result ≡ kind_in c.args.r c.args.file.now c.args.entry = c.kind_at-kind.ensures ∙ kind_is _ _ c.table_in-t.ensures _ _ in
+    let l = constant_long _ _ _ _ _ c.requires (sym named ∙ c.in-Constant.is) in
+    omega (arith, brick-is _ _ c.table_in-t.ensures)
+
 pub overflow_add-end : goal.overflow_add-end
 overflow_add-end c =
     let entry_seen : Seen c.args.r c.args.file.now c.args.entry = seen _ _ _ (view_parts _ _ _ _ c.requires).0 in
@@ -31,6 +37,14 @@ overflow_add-end c =
     let inside : c.in-Stored.offset + c.table_in-t.result.brick ≤ length c.args.file.now = rw (brick-is _ _ c.table_in-t.ensures)
     (stored_in _ _ _ _ entry_seen (sym named ∙ c.in-Stored.is)) in
     omega (arith, inside, c.well_formed)
+
+pub slice_bounds-result-end-in-Stored : goal.slice_bounds-result-end-in-Stored
+slice_bounds-result-end-in-Stored c =
+    let entry_seen : Seen c.args.r c.args.file.now c.args.entry = seen _ _ _ (view_parts _ _ _ _ c.requires).0 in
+    let named : c.kind_at-kind.result ≡ kind_in c.args.r c.args.file.now c.args.entry = c.kind_at-kind.ensures ∙ kind_is _ _ c.table_in-t.ensures _ _ in
+    let inside : c.in-Stored.offset + c.table_in-t.result.brick ≤ length c.args.file.now = rw (brick-is _ _ c.table_in-t.ensures)
+    (stored_in _ _ _ _ entry_seen (sym named ∙ c.in-Stored.is)) in
+    inside
 
 pub returns-in-Missing : goal.returns-in-Missing
 returns-in-Missing c =
