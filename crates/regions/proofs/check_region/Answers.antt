@@ -1,7 +1,7 @@
 use mathlib.Core.Path.{sym, ◌∙◌}
 use native.Mathlib.Omega.{arith}
-use Rattle.cube.proofs.Regions.{stop14, stop15}
-use Rattle.regions.proofs.Verdicts.{allowed_of}
+use Rattle.cube.proofs.Regions.{stop14, stop15, stop16, stop18, go_on}
+use Rattle.regions.proofs.Verdicts.{allowed_of, passed_of}
 use Rattle.regions.proofs.check_region.Goals as goal
 
 pub returns-then-check14_with : goal.returns-then-check14_with
@@ -14,3 +14,23 @@ returns-then-r-g c =
 pub in_extent-requires : goal.in_extent-requires
 in_extent-requires c =
         allowed_of _ _ _ (sym c.check14_with.ensures ∙ c.if-check14_with.false) c.if-r-g.false
+
+pub returns-then-not-in_extent : goal.returns-then-not-in_extent
+returns-then-not-in_extent c =
+            c.refuse-then-not-in_extent.ensures ∙ stop16 _ _ _ _ _ _ (sym c.check14_with.ensures ∙ c.if-check14_with.false) c.if-r-g.false (sym c.in_extent.ensures ∙ c.if-not-in_extent.true)
+
+pub needed-requires : goal.needed-requires
+needed-requires c =
+                ((passed_of _ _ _ (sym c.check14_with.ensures ∙ c.if-check14_with.false) c.if-r-g.false (sym c.in_extent.ensures ∙ c.if-not-in_extent.false)).0, omega (arith, c.requires))
+
+pub returns-then-room-needed : goal.returns-then-room-needed
+returns-then-room-needed c =
+                c.refuse-then-room-needed.ensures ∙ stop18 _ _ _ _ _ _ (sym c.check14_with.ensures ∙ c.if-check14_with.false) c.if-r-g.false (sym c.in_extent.ensures ∙ c.if-not-in_extent.false) (rw (← c.needed.ensures) c.if-room-needed.true)
+
+pub check_entries-requires : goal.check_entries-requires
+check_entries-requires c =
+                passed_of _ _ _ (sym c.check14_with.ensures ∙ c.if-check14_with.false) c.if-r-g.false (sym c.in_extent.ensures ∙ c.if-not-in_extent.false)
+
+pub returns : goal.returns
+returns c =
+                c.check_entries.ensures ∙ go_on _ _ _ _ _ _ (sym c.check14_with.ensures ∙ c.if-check14_with.false) c.if-r-g.false (sym c.in_extent.ensures ∙ c.if-not-in_extent.false) (rw (← c.needed.ensures) c.if-room-needed.false)
