@@ -1,0 +1,14 @@
+use Prim.Native.Nat.{◌-◌, ◌*◌}
+use mathlib.Core.Path.{◌≡◌}
+use Rattle.endian.specs.Loops.{tri}
+use Rattle.cube.specs.Places.{item_bytes}
+use Rattle.cube.specs.Regions.{run_of}
+use Rattle.writing.specs.Writes.{run_to}
+use Rattle.writing.proofs.Turns.{Writes}
+use Rattle.writing.proofs.write_plane.Given as goal
+
+abbrev pub invariant-loop-j : goal.invariant-loop-j
+invariant-loop-j l = Writes l.r l.initial.file (run_to l.r l.g l.input l.i) (run_of l.g 1) l.file l.j × (l.a ≡ tri (run_of l.g 1) (run_of l.g 2) l.i l.j 0 * item_bytes l.r)
+
+abbrev pub decreases-loop-j : goal.decreases-loop-j
+decreases-loop-j l = l.n - l.j
