@@ -311,13 +311,13 @@ fn run_pair(rt: &(impl Files + Print + Eprint), cube: &str, list: &str) -> io::R
 }
 
 fn main(rt: HostRuntime) -> io::Result<()> {
-    let mut cube = [0u8; LONGEST_NAME];
-    let mut list = [0u8; LONGEST_NAME];
+    let mut cube_buffer = [0u8; LONGEST_NAME];
+    let mut list_buffer = [0u8; LONGEST_NAME];
     for i in 0..usize::MAX / 2 {
-        let Some(cube) = argument(&rt, 2 * i + 1, &mut cube)? else {
+        let Some(cube) = argument(&rt, 2 * i + 1, &mut cube_buffer)? else {
             break;
         };
-        let list = argument(&rt, 2 * i + 2, &mut list)?.unwrap_or("");
+        let list = argument(&rt, 2 * i + 2, &mut list_buffer)?.unwrap_or("");
         run_pair(&rt, cube, list)?;
     }
     Ok(())
