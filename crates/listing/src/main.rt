@@ -1,14 +1,32 @@
 // Lists the cube on standard input.
 #![tactic(auto)]
 
-use libc::{STDIN_FILENO, STDOUT_FILENO};
+ghost use Rattle.std.specs.Io.{ReadsAtMost};
+
+use std::io;
+use std::io::Read;
+
+// Fills a buffer from a reader. Answers how many bytes it got: fewer than there is room for only where the input ends.
+fn read_full(from: &mut impl Read, out: &mut [u8]) -> io::Result<usize>
+    ensures { ReadsAtMost result out.new }
+{
+    let mut done = 0;
+    while done < out.len() {
+        let n = from.read(&mut out[done..])?;
+        if n == 0 {
+            break;
+        }
+        done += n;
+    }
+    Ok(done)
+}
 
 // The first array takes a byte more than a listed file has, so that a longer one shows. A listed file
 // has fewer than 8,000 entries and a line at most 31 bytes, so the second takes every listing.
-fn main() {
+fn main(rt: HostRuntime) -> io::Result<()> {
     let mut file = [0u8; 65537];
     let mut out = [0u8; 262144];
-    let n = io::read_full(STDIN_FILENO, &mut file);
+    let n = read_full(&mut rt.stdin(), &mut file)?;
     let shown = report::list(&mut out, &file[..n]);
-    io::write_all(STDOUT_FILENO, &out[..shown]);
+    rt.write_all(&out[..shown])
 }

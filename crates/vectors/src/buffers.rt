@@ -1,8 +1,6 @@
 // Buffers that calls are lent: what they hold before a call, and the hash that shows them after it.
 ghost use Rattle.std.specs.Prelude.{◌≡◌, ◌+◌, ◌<◌, ◌≤◌, length, take};
 
-use std::num::wrapping_add_u64;
-
 // The most bytes of a file or a buffer.
 pub const HELD: usize = 65536;
 
@@ -24,21 +22,20 @@ pub fn floats_within(n: usize, numbers: &[f64]) -> usize
     if n < numbers.len() { n } else { numbers.len() }
 }
 
-// One step of the 64-bit FNV-1a hash. Its prime is 2^40 + 435, and the product is taken by parts, since it wraps.
+// Where the 64-bit FNV-1a hash starts, and its prime, which is 2^40 + 435.
+const FNV_START: u64 = 14695981039346656037;
+
+const FNV_PRIME: u64 = 1099511628211;
+
+// One step of the hash.
 fn hashed(hash: u64, byte: u8) -> u64 {
-    let mixed = hash ^ byte as u64;
-    let low = mixed % 4294967296 * 435;
-    let high = mixed / 4294967296 % 4294967296 * 435 % 4294967296 * 4294967296;
-    let top = mixed % 16777216 * 1099511627776;
-    wrapping_add_u64(wrapping_add_u64(low, high), top)
+    (hash ^ u64::from(byte)).wrapping_mul(FNV_PRIME)
 }
 
 pub fn hash_of(bytes: &[u8]) -> u64 {
-    let mut hash = 14695981039346656037;
-    let mut i = 0;
-    while i < bytes.len() {
-        hash = hashed(hash, bytes[i]);
-        i += 1;
+    let mut hash = FNV_START;
+    for byte in bytes {
+        hash = hashed(hash, *byte);
     }
     hash
 }
@@ -49,14 +46,11 @@ fn byte_of(n: u64) -> u8 {
 
 // The hash after the eight bytes of a number, the lowest first.
 fn hashed_number(hash: u64, n: u64) -> u64 {
-    let h1 = hashed(hash, byte_of(n));
-    let h2 = hashed(h1, byte_of(n / 256));
-    let h3 = hashed(h2, byte_of(n / 65536));
-    let h4 = hashed(h3, byte_of(n / 16777216));
-    let h5 = hashed(h4, byte_of(n / 4294967296));
-    let h6 = hashed(h5, byte_of(n / 1099511627776));
-    let h7 = hashed(h6, byte_of(n / 281474976710656));
-    hashed(h7, byte_of(n / 72057594037927936))
+    let mut after = hash;
+    for byte in &n.to_le_bytes() {
+        after = hashed(after, *byte);
+    }
+    after
 }
 
 // The bits of a float; of a NaN the one pattern.
@@ -68,11 +62,9 @@ pub fn bits_of(x: f64) -> u64 {
 }
 
 pub fn hash_of_floats(numbers: &[f64]) -> u64 {
-    let mut hash = 14695981039346656037;
-    let mut i = 0;
-    while i < numbers.len() {
-        hash = hashed_number(hash, bits_of(numbers[i]));
-        i += 1;
+    let mut hash = FNV_START;
+    for number in numbers {
+        hash = hashed_number(hash, bits_of(*number));
     }
     hash
 }
@@ -85,11 +77,9 @@ fn stepped(seed: u64) -> u64 {
 // Fills a buffer with the bytes that follow from a seed.
 pub fn pseudo_random(out: &mut [u8], seed: u64) {
     let mut at = seed;
-    let mut i = 0;
-    while i < out.len() {
+    for byte in out.iter_mut() {
         at = stepped(at);
-        out[i] = (at / 65536 % 256) as u8;
-        i += 1;
+        *byte = (at / 65536 % 256) as u8;
     }
 }
 
@@ -117,10 +107,8 @@ fn repeat(out: &mut [u8], value: u32, width: usize)
     requires { 0 < width }
     ensures { length out.new ≡ length out.old }
 {
-    let mut i = 0;
-    while i < out.len() {
-        out[i] = repeated_byte(value, width, i);
-        i += 1;
+    for (i, byte) in out.iter_mut().enumerate() {
+        *byte = repeated_byte(value, width, i);
     }
 }
 

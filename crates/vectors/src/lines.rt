@@ -2,107 +2,83 @@
 ghost use Rattle.std.specs.Prelude.{◌<◌, ◌≤◌};
 
 use crate::buffers::bits_of;
-use libc::STDOUT_FILENO;
 use record::{Done, Record, Refusal, Verdict};
+use std::io;
 
 // Answers up to this many bytes are written out, longer ones only as their hash.
 pub const SHOWN: usize = 1024;
 
-fn wide(byte: u8) -> u64 {
-    byte as u64
+pub fn say(rt: &impl Print, words: &str) -> io::Result<()> {
+    rt.print(words)
 }
 
-pub fn say(words: &[u8]) {
-    io::write_all(STDOUT_FILENO, words);
+pub fn end_line(rt: &impl Print) -> io::Result<()> {
+    println!(rt)
 }
 
-pub fn end_line() {
-    say(b"\n");
+pub fn say_number(rt: &impl Print, n: u64) -> io::Result<()> {
+    print!(rt; " {n}")
 }
 
-pub fn say_number(n: u64) {
-    say(b" ");
-    io::print_decimal(STDOUT_FILENO, n);
-}
-
-pub fn say_hash(hash: u64) {
-    say(b" ");
-    io::print_hex(STDOUT_FILENO, hash, 16);
+pub fn say_hash(rt: &impl Print, hash: u64) -> io::Result<()> {
+    print!(rt; " {hash:016x}")
 }
 
 // A float as its bits. Of a NaN a proved program sees only that it is one: `to_bits` asks for a float that is none.
-pub fn say_float(x: f64) {
+pub fn say_float(rt: &impl Print, x: f64) -> io::Result<()> {
     if x == x {
-        io::print_hex(STDOUT_FILENO, bits_of(x), 16);
+        print!(rt; "{:016x}", bits_of(x))
     } else {
-        say(b"nan");
+        say(rt, "nan")
     }
 }
 
-pub fn say_refusal(refusal: Refusal) {
-    say(b" refused");
-    say_number(refusal.number as u64);
-    say_number(refusal.entry as u64);
+pub fn say_refusal(rt: &impl Print, refusal: Refusal) -> io::Result<()> {
+    print!(rt; " refused {} {}", refusal.number, refusal.entry)
 }
 
-pub fn say_verdict(verdict: Verdict) {
+pub fn say_verdict(rt: &impl Print, verdict: Verdict) -> io::Result<()> {
     match verdict {
-        Verdict::Taken => say(b" taken"),
-        Verdict::Refused(refusal) => say_refusal(refusal),
+        Verdict::Taken => say(rt, " taken"),
+        Verdict::Refused(refusal) => say_refusal(rt, refusal),
     }
 }
 
-pub fn say_done(done: Done) {
+pub fn say_done(rt: &impl Print, done: Done) -> io::Result<()> {
     match done {
-        Done::Taken(n) => {
-            say(b" taken");
-            say_number(n);
-        }
-        Done::Refused(refusal) => say_refusal(refusal),
+        Done::Taken(n) => print!(rt; " taken {n}"),
+        Done::Refused(refusal) => say_refusal(rt, refusal),
     }
 }
 
-pub fn say_opened(r: Record) {
+pub fn say_opened(rt: &impl Print, r: Record) -> io::Result<()> {
     let d = r.description;
-    say(b"opened");
-    say_number(r.version as u64);
-    say_number(d.datatype as u64);
-    say_number(r.levels as u64);
-    say_number(r.bricks as u64);
-    say_number(r.alphas as u64);
-    say_number(r.header);
-    say_number(r.length);
-    end_line();
+    print!(rt; "opened {} {}", r.version, d.datatype)?;
+    print!(rt; " {} {} {}", r.levels, r.bricks, r.alphas)?;
+    println!(rt; " {} {}", r.header, r.length)
 }
 
 // Bytes in hexadecimal.
-fn say_bytes(bytes: &[u8]) {
-    let mut i = 0;
-    while i < bytes.len() {
-        io::print_hex(STDOUT_FILENO, wide(bytes[i]), 2);
-        i += 1;
+fn say_bytes(rt: &impl Print, bytes: &[u8]) -> io::Result<()> {
+    for byte in bytes {
+        print!(rt; "{byte:02x}")?;
     }
+    Ok(())
 }
 
 // Whether a byte is not zero.
 fn any(bytes: &[u8]) -> bool {
-    let mut found = false;
-    let mut i = 0;
-    while i < bytes.len() {
-        found = found | (bytes[i] != 0);
-        i += 1;
-    }
-    found
+    bytes.iter().any(|byte| *byte != 0)
 }
 
 // A line: the place of the first byte, and the bytes. One of zeros is left out.
-fn say_line(bytes: &[u8], at: usize) {
+fn say_line(rt: &impl Print, bytes: &[u8], at: usize) -> io::Result<()> {
     if any(bytes) {
-        io::print_decimal(STDOUT_FILENO, at as u64);
-        say(b" ");
-        say_bytes(bytes);
-        end_line();
+        print!(rt; "{at} ")?;
+        say_bytes(rt, bytes)?;
+        end_line(rt)?;
     }
+    Ok(())
 }
 
 // The end of the line that starts at a place.
@@ -114,23 +90,23 @@ fn line_end(at: usize, length: usize) -> usize
 }
 
 // Bytes, 32 to a line.
-pub fn say_lines(bytes: &[u8]) {
+pub fn say_lines(rt: &impl Print, bytes: &[u8]) -> io::Result<()> {
     let mut at = 0;
     while at < bytes.len() {
         let end = line_end(at, bytes.len());
-        say_line(&bytes[at..end], at);
+        say_line(rt, &bytes[at..end], at)?;
         at = end;
     }
+    Ok(())
 }
 
 // Floats, each on a line of its own.
-pub fn float_lines(numbers: &[f64]) {
-    let mut i = 0;
-    while i < numbers.len() {
-        say_float(numbers[i]);
-        end_line();
-        i += 1;
+pub fn float_lines(rt: &impl Print, numbers: &[f64]) -> io::Result<()> {
+    for number in numbers {
+        say_float(rt, *number)?;
+        end_line(rt)?;
     }
+    Ok(())
 }
 
 // How many items of an answer are written out: none of one with over `most`.

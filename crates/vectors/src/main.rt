@@ -8,7 +8,7 @@ mod fields;
 mod lines;
 
 ghost use Rattle.std.specs.Prelude.{◌+◌, ◌≤◌, length};
-ghost use Rattle.io.specs.Counts.{IsPrefixLen};
+ghost use Rattle.std.specs.Io.{ReadsAtMost};
 
 use answers::{
     region_of, say_floats, say_kind, say_make, say_permuted, say_position, say_raw, say_string,
@@ -20,6 +20,13 @@ use fields::with_field;
 use lines::{end_line, say, say_number, say_opened, say_refusal};
 use opening::open;
 use record::{Record, Verdict};
+use std::env::{Env, FillError};
+use std::io::Read;
+use std::rt::Files;
+use std::{fs, io, str};
+
+// The most bytes of a name. The system takes none that is longer.
+const LONGEST_NAME: usize = 4096;
 
 // What the calls of a list share: the record, how many bytes of the file are lent, the room of the buffers, the seed.
 #[derive(Clone, Copy)]
@@ -56,124 +63,75 @@ fn call_at(calls: &[u8], at: usize) -> Call
 }
 
 // The name of a call. Answers how many arguments it has.
-fn say_name(which: u32) -> usize {
-    match which {
-        0 => {
-            say(b"kind");
-            1
-        }
-        1 => {
-            say(b"view");
-            5
-        }
-        2 => {
-            say(b"raw");
-            7
-        }
-        3 => {
-            say(b"float");
-            7
-        }
-        4 => {
-            say(b"write");
-            7
-        }
-        5 => {
-            say(b"position");
-            2
-        }
-        6 => {
-            say(b"string");
-            1
-        }
-        7 => {
-            say(b"plain");
-            6
-        }
-        8 => {
-            say(b"subtiled");
-            6
-        }
-        9 => {
-            say(b"make");
-            3
-        }
-        10 => {
-            say(b"open");
-            0
-        }
-        11 => {
-            say(b"room");
-            1
-        }
-        12 => {
-            say(b"seed");
-            1
-        }
-        13 => {
-            say(b"put");
-            3
-        }
-        14 => {
-            say(b"lend");
-            1
-        }
-        15 => {
-            say(b"strings");
-            0
-        }
-        _ => {
-            say(b"field");
-            4
-        }
-    }
+fn say_name(rt: &impl Print, which: u32) -> io::Result<usize> {
+    let (name, count) = match which {
+        0 => ("kind", 1),
+        1 => ("view", 5),
+        2 => ("raw", 7),
+        3 => ("float", 7),
+        4 => ("write", 7),
+        5 => ("position", 2),
+        6 => ("string", 1),
+        7 => ("plain", 6),
+        8 => ("subtiled", 6),
+        9 => ("make", 3),
+        10 => ("open", 0),
+        11 => ("room", 1),
+        12 => ("seed", 1),
+        13 => ("put", 3),
+        14 => ("lend", 1),
+        15 => ("strings", 0),
+        _ => ("field", 4),
+    };
+    say(rt, name)?;
+    Ok(count)
 }
 
-fn say_word(word: u32) {
-    say_number(word as u64);
+fn say_word(rt: &impl Print, word: u32) -> io::Result<()> {
+    say_number(rt, word as u64)
 }
 
-fn say_words(words: [u32; 7], count: usize) {
-    let mut i = 0;
-    while i < 7 {
+// The first words of a call, so many as its arguments.
+fn say_words(rt: &impl Print, words: [u32; 7], count: usize) -> io::Result<()> {
+    for (i, word) in words.iter().enumerate() {
         if i < count {
-            say_word(words[i]);
+            say_word(rt, *word)?;
         }
-        i += 1;
     }
+    Ok(())
 }
 
 // The calls that a file, a record and a few numbers are enough for.
-fn answer(file: &[u8], s: Setting, c: Call) {
+fn answer(rt: &impl Print, file: &[u8], s: Setting, c: Call) -> io::Result<()> {
     let which = c.which;
     let words = c.words;
     match which {
-        0 => say_kind(file, s.record, words[0]),
-        1 => say_view(file, s.record, words),
-        2 => say_raw(file, s.record, region_of(words), s.room),
-        3 => say_floats(file, s.record, region_of(words), s.room),
-        5 => say_position(s.record, words[0], words[1]),
-        6 => say_string(file, s.record, words[0]),
-        7 => say_permuted(words, s.seed, true),
-        15 => say_strings(file, s.record),
-        _ => say_permuted(words, s.seed, false),
+        0 => say_kind(rt, file, s.record, words[0]),
+        1 => say_view(rt, file, s.record, words),
+        2 => say_raw(rt, file, s.record, region_of(words), s.room),
+        3 => say_floats(rt, file, s.record, region_of(words), s.room),
+        5 => say_position(rt, s.record, words[0], words[1]),
+        6 => say_string(rt, file, s.record, words[0]),
+        7 => say_permuted(rt, words, s.seed, true),
+        15 => say_strings(rt, file, s.record),
+        _ => say_permuted(rt, words, s.seed, false),
     }
 }
 
 // Opens what is lent. Refused, the record stays.
-fn reopened(file: &[u8], r: Record) -> Record {
+fn reopened(rt: &impl Print, file: &[u8], r: Record) -> io::Result<Record> {
     let opened = open(file);
     let verdict = opened.verdict;
     match verdict {
         Verdict::Refused(refusal) => {
-            say_refusal(refusal);
-            end_line();
-            r
+            say_refusal(rt, refusal)?;
+            end_line(rt)?;
+            Ok(r)
         }
         Verdict::Taken => {
-            say(b" ");
-            say_opened(opened.cube);
-            opened.cube
+            say(rt, " ")?;
+            say_opened(rt, opened.cube)?;
+            Ok(opened.cube)
         }
     }
 }
@@ -195,100 +153,97 @@ fn set(s: Setting, c: Call) -> Setting {
     t
 }
 
-fn write_to(held: &mut [u8], s: Setting, words: [u32; 7]) {
+fn write_to(rt: &impl Print, held: &mut [u8], s: Setting, words: [u32; 7]) -> io::Result<()> {
     let lent = within(s.lent, held);
     say_write(
+        rt,
         &mut held[..lent],
         s.record,
         region_of(words),
         s.room,
         s.seed,
-    );
+    )
 }
 
-fn answer_lent(held: &[u8], s: Setting, c: Call) {
+fn answer_lent(rt: &impl Print, held: &[u8], s: Setting, c: Call) -> io::Result<()> {
     let lent = within(s.lent, held);
-    answer(&held[..lent], s, c);
+    answer(rt, &held[..lent], s, c)
 }
 
-fn make_from(held: &[u8], s: Setting, words: [u32; 7]) {
+fn make_from(rt: &impl Print, held: &[u8], s: Setting, words: [u32; 7]) -> io::Result<()> {
     let r = s.record;
-    say_make(held, r.description, words, s.room);
+    say_make(rt, held, r.description, words, s.room)
 }
 
-fn open_lent(held: &[u8], s: Setting) -> Setting {
+fn open_lent(rt: &impl Print, held: &[u8], s: Setting) -> io::Result<Setting> {
     let lent = within(s.lent, held);
-    let r = reopened(&held[..lent], s.record);
+    let r = reopened(rt, &held[..lent], s.record)?;
     let mut t = s;
     t.record = r;
-    t
+    Ok(t)
 }
 
 // One call: its line, and the settings after it.
-fn step(held: &mut [u8], s: Setting, c: Call) -> Setting {
+fn step(rt: &impl Print, held: &mut [u8], s: Setting, c: Call) -> io::Result<Setting> {
     let which = c.which;
     let words = c.words;
-    let count = say_name(which);
-    say_words(words, count);
+    let count = say_name(rt, which)?;
+    say_words(rt, words, count)?;
     match which {
         0..=3 | 5..=8 | 15 => {
-            say(b":");
-            answer_lent(held, s, c);
-            s
+            say(rt, ":")?;
+            answer_lent(rt, held, s, c)?;
+            Ok(s)
         }
         4 => {
-            say(b":");
-            write_to(held, s, words);
-            s
+            say(rt, ":")?;
+            write_to(rt, held, s, words)?;
+            Ok(s)
         }
         9 => {
-            say(b":");
-            make_from(held, s, words);
-            s
+            say(rt, ":")?;
+            make_from(rt, held, s, words)?;
+            Ok(s)
         }
         10 => {
-            say(b":");
-            open_lent(held, s)
+            say(rt, ":")?;
+            open_lent(rt, held, s)
         }
         13 => {
-            end_line();
+            end_line(rt)?;
             put(held, words[0], words[1], words[2]);
-            s
+            Ok(s)
         }
         _ => {
-            end_line();
-            set(s, c)
+            end_line(rt)?;
+            Ok(set(s, c))
         }
     }
 }
 
 // All calls of a list on a cube that opened.
-fn run_calls(held: &mut [u8], calls: &[u8], first: Setting) {
-    let count = calls.len() / 32;
+fn run_calls(rt: &impl Print, held: &mut [u8], calls: &[u8], first: Setting) -> io::Result<()> {
     let mut s = first;
-    let mut i = 0;
-    while i < count {
-        s = step(held, s, call_at(calls, 32 * i));
-        i += 1;
+    for i in 0..calls.len() / 32 {
+        s = step(rt, held, s, call_at(calls, 32 * i))?;
     }
+    Ok(())
 }
 
 // A cube of so many bytes, at the start of what is held.
-fn run_cube(held: &mut [u8], length: usize, calls: &[u8]) {
+fn run_cube(rt: &impl Print, held: &mut [u8], length: usize, calls: &[u8]) -> io::Result<()> {
     let lent = within(length, held);
     let opened = open(&held[..lent]);
     let verdict = opened.verdict;
     match verdict {
         Verdict::Refused(refusal) => {
-            say(b"refused");
-            say_number(refusal.number as u64);
-            say_number(refusal.entry as u64);
-            end_line();
+            println!(rt; "refused {} {}", refusal.number, refusal.entry)
         }
         Verdict::Taken => {
-            say_opened(opened.cube);
+            say_opened(rt, opened.cube)?;
             let r = opened.cube;
             run_calls(
+                rt,
                 held,
                 calls,
                 Setting {
@@ -297,46 +252,73 @@ fn run_cube(held: &mut [u8], length: usize, calls: &[u8]) {
                     room: 2048,
                     seed: 1,
                 },
-            );
+            )
         }
     }
 }
 
-// Reads a file, by its name. Answers how many bytes of it there are.
-fn read_named(out: &mut [u8], name: &[u8]) -> usize
-    ensures { IsPrefixLen result out.new }
+// Fills a buffer from a reader. Answers how many bytes it got: fewer than there is room for only where the input ends.
+fn read_full(from: &mut impl Read, out: &mut [u8]) -> io::Result<usize>
+    ensures { ReadsAtMost result out.new }
 {
-    let fd = os::open_read(name);
-    if fd < 0 {
-        os::fail(name);
-        return 0;
+    let mut done = 0;
+    while done < out.len() {
+        let n = from.read(&mut out[done..])?;
+        if n == 0 {
+            break;
+        }
+        done += n;
     }
-    let n = io::read_full(fd, out);
-    libc::close(fd);
-    n
+    Ok(done)
 }
 
-// The cube that one argument names, and the calls that another names.
-fn run_pair(cube: usize, list: usize) {
+// Reads a file, by its name. Answers how many bytes of it there are. For one that does not open there is a line on
+// standard error, and it counts as empty.
+fn read_named(rt: &(impl Files + Eprint), out: &mut [u8], name: &str) -> io::Result<usize>
+    ensures { ReadsAtMost result out.new }
+{
+    match fs::open(rt, name) {
+        Ok(mut file) => read_full(&mut file, out),
+        Err(error) => {
+            eprintln!(rt; "{name}: {error}")?;
+            Ok(0)
+        }
+    }
+}
+
+// Argument i, in a buffer, or none where there are not so many. One that does not fit counts as empty; one that is not
+// text is an error, since a file's name is text.
+fn argument<'a>(rt: &impl Env, i: usize, buffer: &'a mut [u8]) -> io::Result<Option<&'a str>> {
+    let length = match rt.arg(i, buffer) {
+        Ok(n) => n,
+        Err(FillError::TooLong) => 0,
+        Err(FillError::NotPresent) => return Ok(None),
+    };
+    match str::from_utf8(&buffer[..length]) {
+        Ok(name) => Ok(Some(name)),
+        Err(_) => Err(io::Error::from(io::ErrorKind::InvalidData)),
+    }
+}
+
+// The cube and the calls that two arguments name.
+fn run_pair(rt: &(impl Files + Print + Eprint), cube: &str, list: &str) -> io::Result<()> {
     let mut held = [0u8; HELD];
     let mut calls = [0u8; HELD];
-    let mut name = io::buffer();
-    let mut list_name = io::buffer();
-    let name_length = os::arg(cube, &mut name);
-    let list_length = os::arg(list, &mut list_name);
-    say(b"cube ");
-    say(&name[..name_length]);
-    end_line();
-    let length = read_named(&mut held, &name[..name_length]);
-    let end = read_named(&mut calls, &list_name[..list_length]);
-    run_cube(&mut held, length, &calls[..end]);
+    println!(rt; "cube {cube}")?;
+    let length = read_named(rt, &mut held, cube)?;
+    let end = read_named(rt, &mut calls, list)?;
+    run_cube(rt, &mut held, length, &calls[..end])
 }
 
-fn main() {
-    let pairs = os::arg_count() / 2;
-    let mut i = 0;
-    while i < pairs {
-        run_pair(2 * i + 1, 2 * i + 2);
-        i += 1;
+fn main(rt: HostRuntime) -> io::Result<()> {
+    let mut cube_buffer = [0u8; LONGEST_NAME];
+    let mut list_buffer = [0u8; LONGEST_NAME];
+    for i in 0..usize::MAX / 2 {
+        let Some(cube) = argument(&rt, 2 * i + 1, &mut cube_buffer)? else {
+            break;
+        };
+        let list = argument(&rt, 2 * i + 2, &mut list_buffer)?.unwrap_or("");
+        run_pair(&rt, cube, list)?;
     }
+    Ok(())
 }
