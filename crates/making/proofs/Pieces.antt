@@ -7,7 +7,7 @@ use native.Mathlib.Omega.{arith}
 use lib.ListN.{length, set, length-set, replicate-append-replicate}
 use Rattle.endian.specs.Loops.{cat}
 use Rattle.endian.specs.Bytes.{lows}
-use Rattle.text.specs.Text.{poured, Pours}
+use Rattle.text.specs.Text.{Pours}
 use Rattle.text.proofs.Pour.{poured-one, poured_full, poured-length, poured-none, poured_step}
 use Rattle.record.specs.declared.Description.{Description}
 use Rattle.making.specs.Making.{zero_bytes, three, survey_fields}

@@ -1,48 +1,46 @@
 -- Where a string ends: the first zero byte, and what stands before it. Assumes nothing.
-use mathlib.Core.Bool.{Bool, true, false}
-use mathlib.Core.List.{List, [], ◌∷◌}
-use mathlib.Core.Path.{◌≡◌, refl, sym, ◌∙◌}
-use Prim.Native.Nat.{ℕ, zero, suc, ◌+◌, ◌-◌, ◌≤◌, ◌<◌}
+use mathlib.Core.Bool.{Bool, true, false, not, cond}
+use mathlib.Core.List.{List}
+use mathlib.Core.Path.{◌≡◌, refl, sym, ap, ◌∙◌}
+use Prim.Native.Nat.{ℕ, ◌+◌, ◌≤◌, ◌<◌}
 use native.Mathlib.Omega.{arith}
-use lib.Dec.{eqb}
+use lib.Dec.{eqb, ltb}
 use lib.ListN.{get_or, length, drop, length-drop}
-use lib.Seq.{get_or-drop, take-length}
-use borrow.Author.Tests.{eqb-true, eqb-false}
-use Rattle.bytes.specs.Bytes.{index_of, index_after, slice}
-use Rattle.strings.specs.Strings.{end_of}
+use lib.Seq.{get_or-drop}
+use borrow.Author.Tests.{eqb-true, ltb-false}
+use Rattle.std.proofs.Common.{Option, Some, None}
+use Rattle.std.specs.List.{position}
+use Rattle.std.proofs.lemmas.List.Sums.{prefix_len-le-length, prefix_len_passes, prefix_len_stops}
+use Rattle.std.proofs.lemmas.Bool.{false≢true}
+use Rattle.checks.proofs.Described.{not-false}
+use Rattle.strings.specs.Strings.{index_of, end_of}
 
 index-le : (l : List ℕ) → index_of 0 l ≤ length l
-unfolding index_of index_after
-index-le [] = omega arith
-index-le (x ∷ l) = go (eqb x 0) (index-le l)
-  where
-    go : (b : Bool) → index_of 0 l ≤ length l → index_after b (index_of 0 l) ≤ suc (length l)
-    go true h = omega arith
-    go false h = omega arith
+index-le l = prefix_len-le-length (λ y. not (eqb y 0)) l
 
 index_at : (l : List ℕ) → index_of 0 l < length l → get_or l (index_of 0 l) 0 ≡ 0
-unfolding index_of index_after
-index_at [] h = refl
-index_at (x ∷ l) h = go (eqb x 0) refl (index_at l) h
-  where
-    go : (b : Bool) → eqb x 0 ≡ b → (index_of 0 l < length l → get_or l (index_of 0 l) 0 ≡ 0) → index_after b (index_of 0 l) < suc (length l) → get_or (x ∷ l) (index_after b (index_of 0 l)) 0 ≡ 0
-    go true e ih g = eqb-true x 0 e
-    go false e ih g = ih (omega arith)
+index_at l h = eqb-true _ 0 (not-false _ (prefix_len_stops (λ y. not (eqb y 0)) l 0 h))
 
 index_before : (l : List ℕ) (j : ℕ) → j < index_of 0 l → get_or l j 0 ≡ 0 → ⊥
-unfolding index_of index_after
-index_before [] j h z = omega arith
-index_before (x ∷ l) j h z = go (eqb x 0) refl (index_before l) j h z
-  where
-    go : (b : Bool) → eqb x 0 ≡ b → ((k : ℕ) → k < index_of 0 l → get_or l k 0 ≡ 0 → ⊥) → (k : ℕ) → k < index_after b (index_of 0 l) → get_or (x ∷ l) k 0 ≡ 0 → ⊥
-    go true e ih k g y = omega arith
-    go false e ih zero g y = eqb-false x 0 e y
-    go false e ih (suc k) g y = ih k (omega arith) y
+index_before l j h z = false≢true (rw z at (prefix_len_passes (λ y. not (eqb y 0)) l j 0 h))
 
--- what the search up to the text's end finds
-pub found_end : (t : List ℕ) (at : ℕ) → at + index_of 0 (slice at (length t) t) ≡ end_of t at
-unfolding end_of slice
-found_end t at = rw take-length
+-- what the search of a text from a place on finds
+module _ (t : List ℕ) (at : ℕ) {r : Option ℕ} (e : r ≡ position (λ y. eqb y 0) (drop at t)) where
+  pub found_some : {n : ℕ} → r ≡ Some n → at + n ≡ end_of t at
+  unfolding end_of
+  found_some {n} s = ap (λ k. at + k) (sym (is_some (ltb (index_of 0 (drop at t)) (length (drop at t))) (sym e ∙ s)))
+    where
+      is_some : (b : Bool) → cond b (Some (index_of 0 (drop at t))) None ≡ Some n → index_of 0 (drop at t) ≡ n
+      is_some true q = cc
+      is_some false q = absurd (let z : ◌≡◌ {A = ℕ} 0 1 = cc in omega arith)
+
+  pub found_none : r ≡ None → at ≤ length t → length t ≡ end_of t at
+  unfolding end_of
+  found_none s h = omega (arith, index-le (drop at t), length-drop at t, none (ltb (index_of 0 (drop at t)) (length (drop at t))) refl (sym e ∙ s))
+    where
+      none : (b : Bool) → ltb (index_of 0 (drop at t)) (length (drop at t)) ≡ b → cond b (Some (index_of 0 (drop at t))) None ≡ None → length (drop at t) ≤ index_of 0 (drop at t)
+      none true q g = absurd (let z : ◌≡◌ {A = ℕ} 0 1 = cc in omega arith)
+      none false q g = ltb-false _ _ q
 
 module _ (t : List ℕ) (at : ℕ) where
   pub end_low : at ≤ end_of t at

@@ -4,4 +4,3 @@ pub mod Turns
 pub mod Verdicts
 pub mod Fives
 pub mod Parts
-pub mod Held

@@ -1,7 +1,7 @@
 -- The strings of a cube's text section (FORMAT 10.11), and the turns in which a walker hands them out.
-use Rattle.std.specs.Prelude.{cond, List, [], ◌∷◌, ℕ, zero, suc, ◌+◌, ◌-◌, ltb, length, drop}
+use Rattle.std.specs.Prelude.{cond, List, [], ◌∷◌, ℕ, zero, suc, ◌+◌, ◌-◌, eqb, ltb, length, drop}
+use Rattle.std.specs.List.{position_or_len}
 use Rattle.std.proofs.Math.Option.{Option, none, some}
-use Rattle.bytes.specs.Bytes.{index_of}
 use Rattle.endian.specs.Bytes.{peek}
 use Rattle.record.specs.Answers.{refused, is_taken}
 use Rattle.record.specs.Header.{text_of}
@@ -24,6 +24,10 @@ strings_verdict r f =
 -- the text that a walker holds: the text section, or none where it is refused
 unfoldable pub text_in : Record → List ℕ → List ℕ
 text_in r f = cond (is_taken (strings_verdict r f)) (text_of f r.text) []
+
+-- the place of the first x of a list, or the list's length where it has none
+abbrev pub index_of : ℕ → List ℕ → ℕ
+index_of x l = position_or_len (λ y. eqb y x) l
 
 -- where the string at a place ends: at the first zero byte at or after it, or at the text's end where there is none
 unfoldable pub end_of : List ℕ → ℕ → ℕ

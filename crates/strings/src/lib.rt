@@ -70,7 +70,10 @@ fn end_at(text: &[u8], at: usize) -> usize
     ensures end { result ≡ end_of text.now at }
     ensures inside { (at ≤ result) × (result ≤ length text.now) }
 {
-    bytes::scan::find(text, at, text.len(), 0)
+    match text[at..].iter().position(|byte| *byte == 0) {
+        Some(n) => at + n,
+        None => text.len(),
+    }
 }
 
 // What stands at a place of a text.

@@ -1,0 +1,73 @@
+-- The numbers of a plan, and that none of them wraps.
+use mathlib.Core.Path.{◌≡◌, ap, ◌∙◌}
+use Prim.Native.Nat.{ℕ}
+use native.Mathlib.Omega.{arith}
+use Rattle.geometry.specs.Geometry.{header_end, shape_of}
+use Rattle.geometry.specs.declared.Shape.{Shape}
+use Rattle.record.specs.Record.{count_of, bricks_of, alphas_of, brick_bytes_of}
+use Rattle.record.specs.declared.Description.{Description}
+use Rattle.record.specs.declared.Verdict.TheVariants.{Taken}
+use Rattle.record.proofs.Laws.{shape-bricks, shape-alphas}
+use Rattle.checks.specs.Checks.{described}
+use Rattle.checks.proofs.Described.{described-all, described_sized}
+use Rattle.making.proofs.Sizes.{text_few, bricks-few, alphas-le-bricks, multiple, all-bytes, Numbers, numbers, plan_constant, plan_stored}
+use Rattle.making.proofs.plan_of.Goals as goal
+
+shaped : (d : Description) {s : Shape} → s ≡ shape_of (count_of d 0) (count_of d 1) (count_of d 2) → (s.alphas ≡ alphas_of d) × (s.bricks ≡ bricks_of d)
+shaped d e = (ap (λ (s : Shape). s.alphas) e ∙ shape-alphas d, ap (λ (s : Shape). s.bricks) e ∙ shape-bricks d)
+
+planned : (d : Description) (t : ℕ) → described d t ≡ Taken → {s : Shape} {h b : ℕ} → s ≡ shape_of (count_of d 0) (count_of d 1) (count_of d 2)
+    → h ≡ header_end t s.alphas s.bricks → b ≡ brick_bytes_of d → Numbers d t s.alphas s.bricks h b
+planned d t taken e eh eb = let p = shaped d e in numbers d t taken _ _ _ _ p.0 p.1 eh eb
+
+pub shape_in-shape-requires : goal.shape_in-shape-requires
+shape_in-shape-requires c = described_sized _ _ (described-all _ _ c.requires)
+
+pub brick_bytes_in-brick-requires : goal.brick_bytes_in-brick-requires
+brick_bytes_in-brick-requires c = described_sized _ _ (described-all _ _ c.requires)
+
+pub header_end-header-requires : goal.header_end-header-requires
+header_end-header-requires c =
+    let p = shaped c.args.d c.shape_in-shape.ensures in
+    let few = bricks-few c.args.d c.args.text c.requires in
+    ((text_few _ _ c.requires).1, omega (arith, p, few, alphas-le-bricks c.args.d c.args.text c.requires), omega (arith, p, few))
+
+pub ceil_div-requires : goal.ceil_div-requires
+ceil_div-requires c =
+    let n = planned c.args.d c.args.text c.requires c.shape_in-shape.ensures c.header_end-header.ensures c.brick_bytes_in-brick.ensures.0 in
+    (n.s_pos, omega (arith, n.h_few, n.s_few))
+
+pub overflow_mul-start : goal.overflow_mul-start
+overflow_mul-start c =
+    let n = planned c.args.d c.args.text c.requires c.shape_in-shape.ensures c.header_end-header.ensures c.brick_bytes_in-brick.ensures.0 in
+    record { fits = omega (arith, n, multiple _ _ _ n.s_pos c.ceil_div.ensures) }
+
+pub overflow_sub-after : goal.overflow_sub-after
+overflow_sub-after c =
+    let n = planned c.args.d c.args.text c.requires c.shape_in-shape.ensures c.header_end-header.ensures c.brick_bytes_in-brick.ensures.0 in
+    omega (arith, multiple _ _ _ n.s_pos c.ceil_div.ensures)
+
+pub overflow_mul-after : goal.overflow_mul-after
+overflow_mul-after c =
+    let n = planned c.args.d c.args.text c.requires c.shape_in-shape.ensures c.header_end-header.ensures c.brick_bytes_in-brick.ensures.0 in
+    record { fits = omega (arith, all-bytes _ _ n.b_few n.s_few) }
+
+pub overflow_add-after : goal.overflow_add-after
+overflow_add-after c =
+    let n = planned c.args.d c.args.text c.requires c.shape_in-shape.ensures c.header_end-header.ensures c.brick_bytes_in-brick.ensures.0 in
+    record { fits = omega (arith, n, multiple _ _ _ n.s_pos c.ceil_div.ensures, all-bytes _ _ n.b_few n.s_few) }
+
+pub overflow_add-result : goal.overflow_add-result
+overflow_add-result c =
+    let n = planned c.args.d c.args.text c.requires c.shape_in-shape.ensures c.header_end-header.ensures c.brick_bytes_in-brick.ensures.0 in
+    record { fits = omega (arith, n, multiple _ _ _ n.s_pos c.ceil_div.ensures, all-bytes _ _ n.b_few n.s_few) }
+
+pub returns-in-Constant : goal.returns-in-Constant
+returns-in-Constant c =
+    let n = planned c.args.d c.args.text c.requires c.shape_in-shape.ensures c.header_end-header.ensures c.brick_bytes_in-brick.ensures.0 in
+    plan_constant _ _ _ _ _ _ n _ c.in-Constant.is
+
+pub returns-in-Stored : goal.returns-in-Stored
+returns-in-Stored c =
+    let n = planned c.args.d c.args.text c.requires c.shape_in-shape.ensures c.header_end-header.ensures c.brick_bytes_in-brick.ensures.0 in
+    plan_stored _ _ _ _ _ _ n _ _ c.ceil_div.ensures c.in-Stored.is

@@ -1,0 +1,7 @@
+use mathlib.Core.Path.{refl}
+use Rattle.subtiles.specs.Runs.{tiled_run}
+use Rattle.subtiles.proofs.tiled_run.Goals as goal
+
+pub returns : goal.returns
+unfolding tiled_run
+returns c = refl
