@@ -1,0 +1,5 @@
+use Rattle.text.proofs.Pour.{poured_step}
+use Rattle.report.proofs.refused_line.Goals as goal
+
+pub returns : goal.returns
+returns c = poured_step c.numbered-next.ensures c.number_line.ensures
