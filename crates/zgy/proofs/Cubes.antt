@@ -1,8 +1,7 @@
 -- Demand 2. Assumes nothing.
-use mathlib.Core.List.{List, [], ◌∷◌, ◌++◌}
-use mathlib.Core.Path.{◌≡◌, refl, sym, ap, ap₂, ◌∙◌}
-use Prim.Native.Nat.{ℕ, zero, suc, ◌+◌, ◌-◌, ◌*◌, ◌/◌, ◌%◌, ◌^◌, ◌≤◌, ◌<◌}
-use native.Mathlib.Nat.{le_trans}
+use mathlib.Core.List.{List, [], ◌∷◌}
+use mathlib.Core.Path.{◌≡◌, refl, sym, ap, ◌∙◌}
+use Prim.Native.Nat.{ℕ, zero, suc, ◌+◌, ◌-◌, ◌*◌, ◌≤◌}
 use native.Mathlib.Omega.{arith}
 use lib.Ieee.{Float, nan}
 use lib.ListN.{get_or, length, drop, replicate, length-append, length-drop, get_or-append}
@@ -17,7 +16,7 @@ use Rattle.table.proofs.Tables.{names_missing, names_zero, names_constant, names
 use Rattle.opening.specs.Opening.{record_in}
 use Rattle.opening.proofs.Rules.{opens_exactly, record_passes}
 use Rattle.cube.specs.declared.Region.{Region}
-use Rattle.cube.specs.Places.{Place, Row, bytes, item_bytes, brick_of, byte_of, row_in, rows_of, raw_of, float_of}
+use Rattle.cube.specs.Places.{Place, Row, bytes, item_bytes, brick_of, byte_of, row_in, rows_of}
 use Rattle.cube.specs.Regions.{size_of, raw_rows, float_rows, over}
 use Rattle.cube.specs.Calls.{raw, floats}
 use Rattle.cube.proofs.Calls.{taken-raw, taken_float}
@@ -25,7 +24,7 @@ use Rattle.cube.proofs.Regions.{raw_passed, float_passed}
 use Rattle.cube.proofs.Rows.{passed_width, passed_length, raw-item, float_item, float_length}
 use Rattle.making.proofs.Bytes.{lows_mod}
 use Rattle.making.proofs.Opens.{made_opens}
-use Rattle.zgy.specs.Cubes.{entry_word, RulesPut, RawGives, FloatGives, ReadsGive, OpensReadsAndMakes}
+use Rattle.zgy.specs.Cubes.{entry_word, RulesPut, ReadsGive, OpensReadsAndMakes}
 
 lows-zero : (n : ℕ) → lows n 0 ≡ replicate n 0
 unfolding lows

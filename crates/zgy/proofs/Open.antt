@@ -4,7 +4,7 @@ use mathlib.Core.Bool.{Bool, true, false, not, ◌&&◌, cond}
 use mathlib.Core.List.{List}
 use mathlib.Core.Logic.{◌≢◌}
 use mathlib.Core.Path.{◌≡◌, refl, sym, ap, ◌∙◌}
-use Prim.Native.Nat.{ℕ, ◌*◌, ◌<◌}
+use Prim.Native.Nat.{ℕ, ◌<◌}
 use native.Mathlib.Omega.{arith}
 use lib.Dec.{leb, ltb}
 use lib.ListN.{length}
@@ -22,8 +22,7 @@ use Rattle.opening.specs.Opening.{open_verdict, record_in}
 use Rattle.opening.proofs.Rules.{opens_exactly, finds_none}
 use Rattle.opening.proofs.Same.{same_record, same-opens}
 use Rattle.cube.specs.declared.Region.{Region}
-use Rattle.cube.specs.Places.{item_bytes}
-use Rattle.cube.specs.Regions.{size_of, in_extent, touches, unless_touched, not_stored, region_verdict, raw_verdict, float_verdict, write_verdict}
+use Rattle.cube.specs.Regions.{in_extent, touches, unless_touched, not_stored, region_verdict, raw_verdict, float_verdict, write_verdict}
 use Rattle.cube.specs.Calls.{Call, raw_read, float_read, write, verdict_on, cube_after}
 use Rattle.cube.specs.Written.{WrittenBytes}
 use Rattle.cube.proofs.Valid.{entries, Valid}

@@ -11,9 +11,9 @@ use Rattle.record.specs.declared.Record.{Record}
 use Rattle.record.specs.declared.Verdict.{Verdict}
 use Rattle.record.specs.declared.Verdict.TheVariants.{Taken, Refused}
 use Rattle.cube.specs.declared.Region.{Region}
-use Rattle.cube.specs.Places.{Place, Row, bytes, item_bytes, rows_of, raw_of, reading_of, Extent}
+use Rattle.cube.specs.Places.{Place, bytes, item_bytes, rows_of, raw_of, reading_of, Extent}
 use Rattle.cube.specs.Regions.{has, index, chunk, written, over}
-use Rattle.cube.specs.Calls.{Call, raw_read, float_read, write, Buffer, raw, floats, lent, verdict_on, cube_after, buffers_after}
+use Rattle.cube.specs.Calls.{Call, raw_read, float_read, write, raw, floats, lent, verdict_on, cube_after, buffers_after}
 use Rattle.cube.proofs.Valid.{Valid}
 use Rattle.cube.proofs.Places.{inside}
 use Rattle.cube.proofs.Regions.{Within, digits_in, extents, raw_passed, float_passed, write_passed}

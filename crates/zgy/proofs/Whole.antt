@@ -3,17 +3,14 @@ use Prim.Native.Nat.{ℕ}
 use mathlib.Core.Path.{◌≡◌, refl, ap, ap₂, ◌∙◌}
 use mathlib.Core.Option.{Option, none, some}
 use mathlib.Core.List.{List, [], ◌∷◌, map}
-use Rattle.endian.specs.Bytes.{Bytes}
 use Rattle.record.specs.declared.Record.{Record}
-use Rattle.record.specs.declared.Verdict.TheVariants.{Taken}
-use Rattle.opening.specs.Opening.{open_verdict, record_in}
+use Rattle.opening.specs.Opening.{record_in}
 use Rattle.cube.specs.Places.{Place, reading_of}
-use Rattle.cube.specs.Calls.{Buffer}
 use Rattle.cube.proofs.Valid.{Valid, valid}
 use Rattle.cube.proofs.Places.{places_apart, past_headers, in_file}
 use Rattle.cube.proofs.Writes.{Kept, kept_refl, kept_trans, kept_kind, kept_valid}
-use Rattle.zgy.specs.Ledger.{Event, last_cube, CallOn, CallsOn, Ledger, opening, puts, leaves, feed, fed, later, last_put, promises}
-use Rattle.zgy.specs.Demands.{OnePlace, AfterCalls, OnePlaceOneSample, SameHeaders, StillOpen, StaysOpen}
+use Rattle.zgy.specs.Ledger.{Event, last_cube, CallsOn, Ledger, opening, puts, leaves, feed, fed, later, last_put, promises}
+use Rattle.zgy.specs.Demands.{OnePlace, AfterCalls, OnePlaceOneSample, StaysOpen}
 use Rattle.zgy.proofs.Steps.{Agrees, items-whole, step_kept, step_agrees, step_gives}
 use Rattle.zgy.proofs.Open.{kept-opens, kept_record, in_range, writes}
 

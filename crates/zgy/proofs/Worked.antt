@@ -9,7 +9,7 @@ use Rattle.geometry.specs.Geometry.{halved, level_base, entry_of}
 use Rattle.record.specs.Answers.{refused_at}
 use Rattle.record.specs.Types.{coding_of, width_of, value_of}
 use Rattle.record.specs.Header.{version_of, description_of, text_length_of}
-use Rattle.record.specs.Record.{levels_of, bricks_of, alphas_of, brick_bytes_of, table_of, header_of, grid_of, record_of}
+use Rattle.record.specs.Record.{levels_of, bricks_of, alphas_of, brick_bytes_of, table_of, header_of, record_of}
 use Rattle.record.specs.declared.Verdict.TheVariants.{Taken}
 use Rattle.checks.specs.Checks.{breaks2, breaks3, side_ok, breaks4, breaks5, size_ok, breaks6, breaks7, breaks8, breaks9, zeros, breaks11, described}
 use Rattle.table.specs.Entries.{kind_of, word_at, kind_at, out_of_range, outside_at, overlap, overlaps_lower, overlaps_at, table_in, breaks12, breaks13}

@@ -1,7 +1,7 @@
 -- Demand 2 (FORMAT 12.2): a cube opens exactly when the rules say so; a region read gives exactly the samples that the rules put there; a cube that we make opens again.
 use Rattle.std.specs.Prelude.{List, [], ◌∷◌, ◌≡◌, ℕ, ◌+◌, ◌*◌, ◌^◌, ◌≤◌, ◌<◌, Float, get_or, length, replicate}
 use Rattle.std.specs.Float.{nan}
-use Rattle.endian.specs.Bytes.{Bytes, peek, le, lows}
+use Rattle.endian.specs.Bytes.{peek, le, lows}
 use Rattle.record.specs.Record.{table_of}
 use Rattle.record.specs.declared.Record.{Record}
 use Rattle.record.specs.declared.Verdict.TheVariants.{Taken}

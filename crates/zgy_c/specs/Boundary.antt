@@ -1,10 +1,9 @@
 -- What crosses the C boundary: each answer of a call as a plain struct. Number 0 says taken; what a refusal does not say is 0.
-use Rattle.std.specs.Prelude.{cond, List, [], ℕ, ◌+◌, ◌-◌, eqb, take}
+use Rattle.std.specs.Prelude.{cond, List, ℕ, ◌+◌, ◌-◌, eqb}
 use Rattle.std.proofs.Math.Option.{get_or}
 use Rattle.std.specs.Float.{binary64}
 use Rattle.std.specs.Float.Ieee.{of_bits}
 use Rattle.geometry.specs.Limits.{text_start}
-use Rattle.endian.specs.Bytes.{peek}
 use Rattle.record.specs.Answers.{number_of, second_of, verdict_of, moved_of}
 use Rattle.record.specs.declared.Done.{Done}
 use Rattle.record.specs.declared.Record.{Record}
