@@ -2,13 +2,12 @@
 use mathlib.Core.Bool.{Bool, true, false, cond}
 use mathlib.Core.List.{List}
 use mathlib.Core.Path.{◌≡◌, refl}
-use Prim.Native.Nat.{ℕ, ◌+◌, ◌*◌, ◌^◌, ◌≤◌, ◌<◌}
+use Prim.Native.Nat.{ℕ, ◌+◌, ◌^◌, ◌≤◌, ◌<◌}
 use native.Mathlib.Omega.{arith}
-use lib.Dec.{eqb}
 use lib.ListN.{length}
 use borrow.Author.Tests.{le-leb, lt-leb, leb-false}
 use Rattle.record.specs.Answers.{refused, refused_at}
-use Rattle.record.specs.Types.{coding_of, item_width, width_of}
+use Rattle.record.specs.Types.{coding_of, width_of}
 use Rattle.record.specs.Record.{brick_bytes_of}
 use Rattle.record.specs.declared.Coding.{Coding}
 use Rattle.record.specs.declared.Record.{Record}

@@ -1,14 +1,13 @@
 -- The verdicts of brick view and what it shows. Assumes nothing.
 use mathlib.Core.Bool.{true, false}
-use mathlib.Core.List.{List, ◌∷◌}
-use mathlib.Core.Path.{◌≡◌, refl, ap}
-use Prim.Native.Nat.{ℕ, zero, suc, ◌+◌, ◌-◌, ◌*◌, ◌/◌, ◌≤◌, ◌<◌}
+use mathlib.Core.List.{List}
+use mathlib.Core.Path.{◌≡◌}
+use Prim.Native.Nat.{ℕ, ◌+◌, ◌-◌, ◌*◌, ◌/◌, ◌≤◌, ◌<◌}
 use native.Mathlib.Nat.{mul_assoc}
 use native.Mathlib.Omega.{arith}
-use lib.ListN.{length, take, drop, replicate}
+use lib.ListN.{length, take, drop}
 use denote.Ref.{Bor}
 use borrow.Author.Tests.{lt-ltb, le-ltb, ltb-false}
-use Rattle.endian.specs.Bytes.{lows}
 use Rattle.record.specs.Answers.{refused}
 use Rattle.record.specs.Types.{width_of}
 use Rattle.record.specs.Record.{side_of, brick_bytes_of}

@@ -12,7 +12,7 @@ use lib.ListN.{get_or}
 use lib.Pow.{pow-add}
 use borrow.Author.Tests.{leb-true, ltb-false}
 pub use Rattle.endian.proofs.Search.{both, either}
-use Rattle.geometry.specs.Limits.{least_exponent, greatest_exponent, IsPower, size_limit, shortest_text, longest_text, side_room}
+use Rattle.geometry.specs.Limits.{least_exponent, IsPower, size_limit, shortest_text, longest_text, side_room}
 use Rattle.geometry.specs.Geometry.{Between, Power}
 use Rattle.geometry.proofs.Powers.{power_of, power-is, zeros-power}
 use Rattle.record.specs.Answers.{refused, is_taken, and_then}

@@ -12,7 +12,7 @@ use Rattle.record.specs.declared.Verdict.TheVariants.{Taken, Refused}
 use Rattle.cube.specs.declared.Region.{Region}
 use Rattle.cube.specs.Places.{rows_of}
 use Rattle.cube.specs.Regions.{raw_rows, float_rows, written, after, over}
-use Rattle.cube.specs.Calls.{Call, raw_read, float_read, write, Buffer, raw, floats, lent, verdict_on, moves, answer_of, cube_after, buffers_after}
+use Rattle.cube.specs.Calls.{Call, raw_read, float_read, write, raw, floats, lent, verdict_on, moves, answer_of, cube_after, buffers_after}
 
 module _ (r : Record) (f : List ℕ) where
   -- ---- refused

@@ -13,7 +13,7 @@ use Rattle.record.specs.declared.Record.{Record}
 use Rattle.table.specs.declared.Kind.{Kind}
 use Rattle.checks.proofs.Records.{Fit}
 use Rattle.cube.specs.declared.Region.{Region}
-use Rattle.cube.specs.Places.{bytes, item_bytes, kind_in, brick_of, byte_of, row_in, rows_of}
+use Rattle.cube.specs.Places.{bytes, item_bytes, brick_of, byte_of, row_in, rows_of}
 use Rattle.table.specs.Entries.{offset_in}
 use Rattle.cube.specs.Regions.{size_of, place_at, chunk, place_byte, store, written}
 use Rattle.cube.specs.Written.{WrittenBytes}

@@ -1,10 +1,10 @@
 -- The widening of a 32-bit float, in bits. Assumes nothing.
-use Rattle.std.proofs.Common.{◌≡◌, ℕ, ◌%◌, ◌^◌, ◌<◌, ◌≤◌, refl, ap, ◌∙◌}
+use Rattle.std.proofs.Common.{◌≡◌, refl, ap, ◌∙◌}
 use lib.Ieee.{nan, binary32, binary64, of_bits, to_bits}
 use lib.Ieee.Fits.{fits_widens}
 use lib.Ieee.Bits.{of_bits-to_bits, of_bits-fits, to_bits-of_bits}
 use Rattle.floats.specs.Rules.{widened_of}
-use Rattle.floats.specs.Widening.{infinity32, infinity64, nan64, WideningRule}
+use Rattle.floats.specs.Widening.{nan64, WideningRule}
 use Rattle.floats.proofs.Patterns.{nan_pattern, no_nan_value}
 
 nan_bits_lem : to_bits binary64 nan ≡ nan64

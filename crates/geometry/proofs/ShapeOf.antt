@@ -1,5 +1,5 @@
 -- `geometry::shape_of` meets its contract. The loop's invariant: no level before this one has one brick, and the sums are those of the levels before it. Assumes nothing.
-use Prim.Native.Nat.{ℕ, ◌+◌, ◌-◌, ◌*◌, ◌≤◌, ◌<◌}
+use Prim.Native.Nat.{ℕ, ◌+◌, ◌*◌, ◌≤◌, ◌<◌}
 use mathlib.Core.Bool.{false}
 use mathlib.Core.List.{List}
 use mathlib.Core.Path.{◌≡◌, sym, ◌∙◌}
@@ -23,6 +23,7 @@ pub record Counted (size side : List ℕ) (l bricks alphas : ℕ) : Type 0 where
 module _ {size side : List ℕ} (s : Sizes size side) where
   pub counted_start : Counted size side 0 0 0
   counted_start = record { many = λ j h. absurd (omega arith); bricks-sum = sym (sum-none (bricks_in size side)); alphas-sum = sym (sum-none (alphas_in size side)) }
+
   module _ {l bricks alphas : ℕ} (h : Counted size side l bricks alphas) where
     -- the top level has one brick, so the search has not passed it
     pub counted-few : l ≤ top_level
@@ -31,11 +32,13 @@ module _ {size side : List ℕ} (s : Sizes size side) where
           | yes g ↦ g
           | no g ↦ clash _ (eq-eqb (bricks_in size side top_level) 1 (sizes_single s)) (h.many top_level (lt_of_not-le g))
         ]
+
     pub counted-small : (bricks + bricks_in size side l ≤ (top_level + 1) * bricks_room) × (alphas + alphas_in size side l ≤ (top_level + 1) * tiles_room)
     counted-small = (
       omega (arith, h.bricks-sum, counted-few, bricks-few l (sizes_small s), sum-most (bricks_in size side) bricks_room (λ m. bricks-few m (sizes_small s)) l),
       omega (arith, h.alphas-sum, counted-few, tiles_few l (sizes_small s), sum-most (alphas_in size side) tiles_room (λ m. tiles_few m (sizes_small s)) l),
     )
+
     pub counted-more : {x y : ℕ} → x ≡ bricks_in size side l → y ≡ alphas_in size side l → (x ≡ 1 → ⊥) → Counted size side (l + 1) (bricks + x) (alphas + y)
     counted-more ex ey n =
         record {
@@ -43,6 +46,7 @@ module _ {size side : List ℕ} (s : Sizes size side) where
           bricks-sum = omega (arith, h.bricks-sum, ex, sum_more (bricks_in size side) l);
           alphas-sum = omega (arith, h.alphas-sum, ey, sum_more (alphas_in size side) l);
         }
+
     pub counted-last : {x y : ℕ} → x ≡ bricks_in size side l → y ≡ alphas_in size side l → x ≡ 1
         → ◌≡◌ {A = Shape} (record { levels = l + 1; bricks = bricks + x; alphas = alphas + y }) (shape_in size side)
     counted-last {x} {y} ex ey one =

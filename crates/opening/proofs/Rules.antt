@@ -23,7 +23,6 @@ use Rattle.record.specs.Types.{coding_of, no_type}
 use Rattle.record.specs.Header.{three_at, two_at, version_of, description_of, text_length_of, text_of}
 use Rattle.record.specs.Record.{side_of, size_of, bricks_of, header_of, record_of}
 use Rattle.record.specs.declared.Description.{Description}
-use Rattle.record.specs.declared.Coding.{Coding}
 use Rattle.record.specs.declared.Verdict.{Verdict}
 use Rattle.record.specs.declared.Verdict.TheVariants.{Taken, Refused}
 use Rattle.checks.specs.Checks.{all3, side_ok, size_ok, brick_limit, zeros, breaks2, breaks3, breaks4, breaks5, breaks6, breaks7, breaks8, breaks9, breaks11}

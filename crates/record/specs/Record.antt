@@ -1,5 +1,5 @@
 -- The record that opening gives (FORMAT 10.2): the description with what follows from it.
-use Rattle.std.specs.Prelude.{cond, List, [], ◌∷◌, ℕ, eqb, get_or, length, replicate, Float}
+use Rattle.std.specs.Prelude.{cond, List, [], ◌∷◌, ℕ, eqb, get_or, replicate, Float}
 use Rattle.std.specs.Float.{binary32}
 use Rattle.std.specs.Float.Ieee.{of_bits}
 use Rattle.geometry.specs.Geometry.{count_in, halved, extent, levels, bricks, alphas, brick_bytes, table_start, header_end, Sizes}

@@ -22,7 +22,7 @@ use Rattle.checks.proofs.Records.{fits_all}
 use Rattle.table.specs.declared.Kind.TheVariants.{Missing, Constant, Stored}
 use Rattle.table.specs.declared.Table.{Table}
 use Rattle.table.specs.Entries.{kind_at, outside_at, overlaps_at, table_in, word_at, word_in, kind_in, breaks12, breaks13, Derived, Readable}
-use Rattle.table.proofs.Words.{kind_missing, kind_zero, kind_constant, kind_offset, at_stored, at_narrow, kind_same}
+use Rattle.table.proofs.Words.{kind_missing, kind_zero, kind_constant, kind_offset, at_narrow, kind_same}
 use Rattle.table.proofs.Range.{at_fits, at_passes}
 use Rattle.table.proofs.Overlaps.{lower_apart, lower_passes}
 

@@ -4,7 +4,6 @@
 // the place after them. So a caller hands each answer to the next call, and looks at the end once.
 #![tactic(auto)]
 
-
 ghost use Rattle.std.specs.Prelude.{◌≡◌, ◌∷◌, [], min};
 ghost use Rattle.floats.specs.Rules.{signed_of};
 ghost use Rattle.text.specs.Text.{Pours, decimal, signed_decimal};

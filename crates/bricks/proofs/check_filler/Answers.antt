@@ -17,7 +17,7 @@ returns-then-filler-bytes c =
 
 pub repeated-requires : goal.repeated-requires
 repeated-requires c =
-        rw (width_is _ _ c.table_in-t.ensures) (described-width _ _ (derived _ c.requires.0), c.requires.1)
+    rw (width_is _ _ c.table_in-t.ensures) (described-width _ _ (derived _ c.requires.0), c.requires.1)
 
 pub returns-then-same_words : goal.returns-then-same_words
 unfolding raw_of

@@ -8,7 +8,7 @@ use Rattle.bricks.proofs.constant_value.Goals as goal
 
 pub integer_value-requires : goal.integer_value-requires
 integer_value-requires c =
-        let e = sym c.coding_of-coding.ensures ∙ c.in-Scaled.is in
+    let e = sym c.coding_of-coding.ensures ∙ c.in-Scaled.is in
     let p = scaled_fits c.args.datatype _ _ c.args.raw e (raw-fits _ _ _ _ e c.requires) in
     (omega arith, omega arith, omega arith)
 

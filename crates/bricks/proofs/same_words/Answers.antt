@@ -1,4 +1,3 @@
-use Prim.Native.Nat.{◌-◌}
 use native.Mathlib.Omega.{arith}
 use Rattle.bricks.proofs.Words.{gathered_more}
 use Rattle.bricks.proofs.same_words.Goals as goal

@@ -5,7 +5,7 @@ use Rattle.checks.proofs.fields_fit.Goals as goal
 pub returns-in-Taken : goal.returns-in-Taken
 unfolding fields_fit
 returns-in-Taken c =
-        let typed = sym c.check5-typed.ensures ∙ c.in-Taken.is in
+    let typed = sym c.check5-typed.ensures ∙ c.in-Taken.is in
     simp (typed, c.check4.ensures, c.check6.ensures, c.check7.ensures)
 
 pub returns-in-Refused : goal.returns-in-Refused

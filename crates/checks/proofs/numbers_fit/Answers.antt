@@ -12,21 +12,40 @@ use Rattle.checks.proofs.numbers_fit.Goals as goal
 pub returns-then-shape-gt-BRICK_LIMIT : goal.returns-then-shape-gt-BRICK_LIMIT
 unfolding breaks8
 returns-then-shape-gt-BRICK_LIMIT c =
-    let bricks_are : c.shape_in-shape.result.bricks ≡ bricks_of c.args.r.description = ap (λ (s : Shape). s.bricks) c.shape_in-shape.ensures ∙ shape-bricks c.args.r.description in
+    let bricks_are : c.shape_in-shape.result.bricks ≡ bricks_of c.args.r.description =
+    ap (λ (s : Shape). s.bricks) c.shape_in-shape.ensures ∙ shape-bricks c.args.r.description in
     simp (lt-ltb brick_limit (bricks_of c.args.r.description) (omega (arith, bricks_are, c.if-shape-gt-BRICK_LIMIT.true)))
 
 pub header_end-header-requires : goal.header_end-header-requires
 header_end-header-requires c =
-    let bricks_are : c.shape_in-shape.result.bricks ≡ bricks_of c.args.r.description = ap (λ (s : Shape). s.bricks) c.shape_in-shape.ensures ∙ shape-bricks c.args.r.description in
-    let alphas_are : c.shape_in-shape.result.alphas ≡ alphas_of c.args.r.description = ap (λ (s : Shape). s.alphas) c.shape_in-shape.ensures ∙ shape-alphas c.args.r.description in
-    let few : bricks_of c.args.r.description ≤ brick_limit = omega (arith, bricks_are, c.if-shape-gt-BRICK_LIMIT.false) in
-    (omega (arith, c.wide.ensures, c.requires.1), omega (arith, alphas_are, alphas-few c.args.r.description c.requires.0, few), omega (arith, bricks_are, few))
+    let bricks_are : c.shape_in-shape.result.bricks ≡ bricks_of c.args.r.description =
+    ap (λ (s : Shape). s.bricks) c.shape_in-shape.ensures ∙ shape-bricks c.args.r.description in
+    let alphas_are : c.shape_in-shape.result.alphas ≡ alphas_of c.args.r.description =
+    ap (λ (s : Shape). s.alphas) c.shape_in-shape.ensures ∙ shape-alphas c.args.r.description in
+    let few : bricks_of c.args.r.description ≤ brick_limit = omega (arith, bricks_are, c.if-shape-gt-BRICK_LIMIT.false) in (
+      omega (arith, c.wide.ensures, c.requires.1),
+      omega (arith, alphas_are, alphas-few c.args.r.description c.requires.0, few),
+      omega (arith, bricks_are, few),
+    )
 
 pub returns : goal.returns
 unfolding breaks8 numbers_fit header_of
 returns c =
-    let levels-are : c.shape_in-shape.result.levels ≡ levels_of c.args.r.description = ap (λ (s : Shape). s.levels) c.shape_in-shape.ensures ∙ shape-levels c.args.r.description in
-    let bricks_are : c.shape_in-shape.result.bricks ≡ bricks_of c.args.r.description = ap (λ (s : Shape). s.bricks) c.shape_in-shape.ensures ∙ shape-bricks c.args.r.description in
-    let alphas_are : c.shape_in-shape.result.alphas ≡ alphas_of c.args.r.description = ap (λ (s : Shape). s.alphas) c.shape_in-shape.ensures ∙ shape-alphas c.args.r.description in
+    let levels-are : c.shape_in-shape.result.levels ≡ levels_of c.args.r.description =
+    ap (λ (s : Shape). s.levels) c.shape_in-shape.ensures ∙ shape-levels c.args.r.description in
+    let bricks_are : c.shape_in-shape.result.bricks ≡ bricks_of c.args.r.description =
+    ap (λ (s : Shape). s.bricks) c.shape_in-shape.ensures ∙ shape-bricks c.args.r.description in
+    let alphas_are : c.shape_in-shape.result.alphas ≡ alphas_of c.args.r.description =
+    ap (λ (s : Shape). s.alphas) c.shape_in-shape.ensures ∙ shape-alphas c.args.r.description in
     let few : bricks_of c.args.r.description ≤ brick_limit = omega (arith, bricks_are, c.if-shape-gt-BRICK_LIMIT.false) in
-    simp (le-ltb brick_limit _ few, c.header_end-header.ensures, c.wide.ensures.0, c.wide-2.ensures.0, c.wide-3.ensures.0, c.wide-4.ensures.0, levels-are, bricks_are, alphas_are)
+    simp (
+      le-ltb brick_limit _ few,
+      c.header_end-header.ensures,
+      c.wide.ensures.0,
+      c.wide-2.ensures.0,
+      c.wide-3.ensures.0,
+      c.wide-4.ensures.0,
+      levels-are,
+      bricks_are,
+      alphas_are,
+    )

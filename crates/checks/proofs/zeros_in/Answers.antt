@@ -1,4 +1,4 @@
-use Prim.Native.Nat.{◌+◌, ◌-◌}
+use Prim.Native.Nat.{◌+◌}
 use mathlib.Core.Path.{◌≡◌, ap, ◌∙◌}
 use native.Mathlib.Omega.{arith}
 use lib.ListN.{length}
@@ -14,7 +14,16 @@ loop-i-init c = omega arith
 
 pub loop-i-preserved : goal.loop-i-preserved
 loop-i-preserved c =
-            elim c.if-text-i-eq0.branch [ then-text-i-eq0 w ↦ let e : zeros_to c.args.text.now (c.loop-i.i + 1) ≡ zeros_to c.args.text.now c.loop-i.i + 1 = zero_more c.args.text.now c.loop-i.i w.if-text-i-eq0.true in omega arith | else-text-i-eq0 w ↦ let e : zeros_to c.args.text.now (c.loop-i.i + 1) ≡ zeros_to c.args.text.now c.loop-i.i + 0 = other-more c.args.text.now c.loop-i.i w.if-text-i-eq0.false in omega arith ]
+    elim c.if-text-i-eq0.branch [
+      | then-text-i-eq0 w ↦
+          let e : zeros_to c.args.text.now (c.loop-i.i + 1) ≡ zeros_to c.args.text.now c.loop-i.i + 1 =
+          zero_more c.args.text.now c.loop-i.i w.if-text-i-eq0.true in
+          omega arith
+      | else-text-i-eq0 w ↦
+          let e : zeros_to c.args.text.now (c.loop-i.i + 1) ≡ zeros_to c.args.text.now c.loop-i.i + 0 =
+          other-more c.args.text.now c.loop-i.i w.if-text-i-eq0.false in
+          omega arith
+    ]
 
 pub returns : goal.returns
 unfolding zeros

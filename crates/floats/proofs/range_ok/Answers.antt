@@ -6,5 +6,5 @@ use Rattle.floats.proofs.range_ok.Goals as goal
 pub returns : goal.returns
 unfolding range_ok
 returns c =
-        rw (c.finite_bits.ensures, c.finite_bits-2.ensures, c.float_of.ensures, c.float_of-2.ensures)
+    rw (c.finite_bits.ensures, c.finite_bits-2.ensures, c.float_of.ensures, c.float_of-2.ensures)
     (and_assoc (finite_bits c.args.min) (finite_bits c.args.max) (lt (of_bits binary32 c.args.min) (of_bits binary32 c.args.max)))

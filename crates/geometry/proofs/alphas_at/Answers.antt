@@ -5,10 +5,10 @@ use Rattle.geometry.proofs.alphas_at.Goals as goal
 
 pub overflow_mul-result : goal.overflow_mul-result
 overflow_mul-result c =
-        let e = halvings c.requires.0 c.args.l in
+    let e = halvings c.requires.0 c.args.l in
     rw (c.count_at.ensures ∙ e.0, c.count_at-2.ensures ∙ e.1) (omega (arith, tiles_few c.args.l (sizes_small c.requires.0)))
 
 pub returns : goal.returns
 returns c =
-        let e = halvings c.requires.0 c.args.l in
+    let e = halvings c.requires.0 c.args.l in
     rw (c.count_at.ensures ∙ e.0, c.count_at-2.ensures ∙ e.1)

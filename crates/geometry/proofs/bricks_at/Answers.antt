@@ -5,8 +5,8 @@ use Rattle.geometry.proofs.bricks_at.Goals as goal
 
 pub overflow_mul-result : goal.overflow_mul-result
 overflow_mul-result c =
-        rw (c.alphas_at.ensures, c.count_at.ensures ∙ (halvings c.requires.0 c.args.l).2) (omega (arith, bricks-few c.args.l (sizes_small c.requires.0)))
+    rw (c.alphas_at.ensures, c.count_at.ensures ∙ (halvings c.requires.0 c.args.l).2) (omega (arith, bricks-few c.args.l (sizes_small c.requires.0)))
 
 pub returns : goal.returns
 returns c =
-        rw (c.alphas_at.ensures, c.count_at.ensures ∙ (halvings c.requires.0 c.args.l).2)
+    rw (c.alphas_at.ensures, c.count_at.ensures ∙ (halvings c.requires.0 c.args.l).2)

@@ -15,6 +15,6 @@ returns-then-e-gt-GREATEST_EXPONENT c = above-greatest _ _ c.requires (omega (ar
 
 pub returns : goal.returns
 returns c =
-        let e = count_trailing_zeros 32 c.args.n in
+    let e = count_trailing_zeros 32 c.args.n in
     let shifted : 1 * 2 ^ e % 2 ^ 32 ≡ 2 ^ e = shl_exact 1 e 32 (omega arith) (omega (arith, c.if-e-gt-GREATEST_EXPONENT.false)) ∙ one-mul (2 ^ e) in
     rw shifted (by-zeros _ _ c.requires c.if-e-least.false (omega (arith, c.if-e-gt-GREATEST_EXPONENT.false)))

@@ -1,5 +1,3 @@
-use Prim.Native.Nat.{◌-◌}
-use mathlib.Core.Bool.{false}
 use native.Mathlib.Omega.{arith}
 use Rattle.geometry.proofs.ShapeOf.{counted_start, counted-few, counted-small, counted-more, counted-last}
 use Rattle.geometry.proofs.shape_of.Goals as goal
@@ -24,11 +22,11 @@ overflow_add-levels c = omega (arith, counted-few c.requires c.loop-size.invaria
 
 pub returns-then-here-eq1 : goal.returns-then-here-eq1
 returns-then-here-eq1 c =
-        counted-last c.requires c.loop-size.invariant c.bricks_at-here.ensures c.alphas_at-alphas.ensures c.if-here-eq1.true
+    counted-last c.requires c.loop-size.invariant c.bricks_at-here.ensures c.alphas_at-alphas.ensures c.if-here-eq1.true
 
 pub loop-size-smaller : goal.loop-size-smaller
 loop-size-smaller c = omega (arith, counted-few c.requires c.loop-size.invariant)
 
 pub loop-size-preserved : goal.loop-size-preserved
 loop-size-preserved c =
-        counted-more c.requires c.loop-size.invariant c.bricks_at-here.ensures c.alphas_at-alphas.ensures c.if-here-eq1.false
+    counted-more c.requires c.loop-size.invariant c.bricks_at-here.ensures c.alphas_at-alphas.ensures c.if-here-eq1.false

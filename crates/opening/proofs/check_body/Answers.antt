@@ -15,11 +15,11 @@ returns-then-length-header c = c.refuse.ensures ∙ body_10 _ _ (rw c.requires.h
 
 pub slice_bounds-check11-end : goal.slice_bounds-check11-end
 slice_bounds-check11-end c =
-        omega (arith, c.requires.header_is, text_before c.args.r.description c.args.r.text, header_table c.args.r.description c.args.r.text)
+    omega (arith, c.requires.header_is, text_before c.args.r.description c.args.r.text, header_table c.args.r.description c.args.r.text)
 
 pub check11-requires : goal.check11-requires
 check11-requires c =
-            let t = described_text _ _ (derived c.args.r c.requires) in
+    let t = described_text _ _ (derived c.args.r c.requires) in
     simp (length-take, length-drop) (omega (arith, c.requires.header_is, text_before c.args.r.description c.args.r.text, header_table c.args.r.description c.args.r.text))
 
 pub returns-then-check11 : goal.returns-then-check11

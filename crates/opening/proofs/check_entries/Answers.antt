@@ -28,7 +28,7 @@ pub lowest_overlap-overlapping-requires : goal.lowest_overlap-overlapping-requir
 lowest_overlap-overlapping-requires c =
     let searched : Readable c.table_in-t.result (length c.args.file.now) = readable _ _ c.table_in-t.ensures c.requires.0 _ c.requires.1 in
     let le = first-le (outside_at c.table_in-t.result c.args.file.now) c.table_in-t.result.count in
- record {
+    record {
       readable = (searched, rw (brick-is _ _ c.table_in-t.ensures) (derived_brick c.args.r c.requires.0));
       count_value = omega (arith, c.lowest_out_of_range-outside.ensures);
     }

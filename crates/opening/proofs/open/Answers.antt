@@ -15,7 +15,7 @@ returns-then-file-lt-TEXT_START c = c.answer.ensures ∙ rw c.refuse.ensures (op
 
 pub returns-then-check2 : goal.returns-then-check2
 returns-then-check2 c =
-        c.answer-then-check2.ensures
+    c.answer-then-check2.ensures
     ∙ rw c.refuse-then-check2.ensures (opened_early _ _ (header_2 _ c.if-file-lt-TEXT_START.false (sym c.check2.ensures ∙ c.if-check2.true)))
 
 pub returns-then-check3 : goal.returns-then-check3

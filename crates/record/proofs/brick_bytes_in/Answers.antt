@@ -4,7 +4,8 @@ use Rattle.record.proofs.Laws.{width-le}
 use Rattle.record.proofs.brick_bytes_in.Goals as goal
 
 pub brick_bytes-requires : goal.brick_bytes-requires
-brick_bytes-requires c = (c.requires.side0.high, c.requires.side1.high, c.requires.side2.high, omega (arith, width-le c.args.d.datatype, c.width_of.ensures))
+brick_bytes-requires c =
+    (c.requires.side0.high, c.requires.side1.high, c.requires.side2.high, omega (arith, width-le c.args.d.datatype, c.width_of.ensures))
 
 pub returns : goal.returns
 unfolding brick_bytes_of

@@ -12,8 +12,8 @@ returns-then-word-eq1 c = sym (kind_zero c.args.width c.args.word c.if-word-eq1.
 
 pub returns-then-word-ge-END : goal.returns-then-word-ge-END
 returns-then-word-ge-END c =
-        ap Constant c.low_bytes.ensures ∙ sym (kind_constant c.args.width c.args.word (omega arith))
+    ap Constant c.low_bytes.ensures ∙ sym (kind_constant c.args.width c.args.word (omega arith))
 
 pub returns : goal.returns
 returns c =
-        sym (kind_offset c.args.width c.args.word (omega arith) (omega arith))
+    sym (kind_offset c.args.width c.args.word (omega arith) (omega arith))

@@ -1,4 +1,3 @@
-use Prim.Native.Nat.{◌-◌}
 use mathlib.Core.Path.{sym, ◌∙◌}
 use native.Mathlib.Omega.{arith}
 use Rattle.table.proofs.Search.{found, missed}
@@ -6,7 +5,7 @@ use Rattle.table.proofs.lowest_out_of_range.Goals as goal
 
 pub returns-then-out_of_range : goal.returns-then-out_of_range
 returns-then-out_of_range c =
-        found _ _ c.loop-lowest.lowest (omega arith) c.loop-lowest.invariant.1 (sym c.out_of_range.ensures ∙ c.if-out_of_range.true)
+    found _ _ c.loop-lowest.lowest (omega arith) c.loop-lowest.invariant.1 (sym c.out_of_range.ensures ∙ c.if-out_of_range.true)
 
 pub returns : goal.returns
 returns c = missed _ _ c.loop-lowest.lowest (omega arith) c.loop-lowest.invariant.1

@@ -7,7 +7,7 @@ use Rattle.table.proofs.out_of_range.Goals as goal
 
 pub overflow_add-result : goal.overflow_add-result
 overflow_add-result c =
-        omega (arith, at_stored _ _ _ _ (sym c.kind_at-kind.ensures ∙ c.in-Stored.is), c.requires.0.small)
+    omega (arith, at_stored _ _ _ _ (sym c.kind_at-kind.ensures ∙ c.in-Stored.is), c.requires.0.small)
 
 pub returns-in-Missing : goal.returns-in-Missing
 unfolding out_of_range

@@ -1,13 +1,11 @@
-use Prim.Native.Nat.{◌-◌}
 use mathlib.Core.Path.{sym}
 use native.Mathlib.Omega.{arith}
-use Rattle.table.specs.Windows.{offset_at}
 use Rattle.table.proofs.Overlaps.{hit-yes, none_lower}
 use Rattle.table.proofs.overlaps_lower.Goals as goal
 
 pub returns-then-near : goal.returns-then-near
 returns-then-near c =
-        let near = rw (c.offset_at.ensures, c.offset_at-offset.ensures) at (c.near.ensures.holds c.if-near.true) in
+    let near = rw (c.offset_at.ensures, c.offset_at-offset.ensures) at (c.near.ensures.holds c.if-near.true) in
     sym (hit-yes _ _ _ (c.loop-lower.lower, omega arith, near))
 
 pub returns : goal.returns

@@ -6,11 +6,11 @@ use Rattle.table.proofs.table_in.Goals as goal
 
 pub table_start-start-requires : goal.table_start-start-requires
 table_start-start-requires c =
-            (omega (arith, described_text _ _ (derived c.args.r c.requires)), omega (arith, alphas-few c.args.r.description (derived_sized c.args.r c.requires), derived_few c.args.r c.requires, c.requires.alphas-is))
+    (omega (arith, described_text _ _ (derived c.args.r c.requires)), omega (arith, alphas-few c.args.r.description (derived_sized c.args.r c.requires), derived_few c.args.r c.requires, c.requires.alphas-is))
 
 pub brick_bytes_in-requires : goal.brick_bytes_in-requires
 brick_bytes_in-requires c = derived_sized c.args.r c.requires
 
 pub returns : goal.returns
 returns c =
-        table_made c.args.r c.requires _ _ _ c.table_start-start.ensures c.brick_bytes_in.ensures.0 c.width_of.ensures
+    table_made c.args.r c.requires _ _ _ c.table_start-start.ensures c.brick_bytes_in.ensures.0 c.width_of.ensures
