@@ -1,27 +1,20 @@
 -- The block of entries that a region touches: its numbers, and that it lies in the table. Assumes nothing.
-use mathlib.Core.Bool.{Bool, true, false, not, ◌&&◌, cond, false≢true}
+use mathlib.Core.Bool.{Bool, true, false, not, cond}
 use mathlib.Core.List.{List}
-use mathlib.Core.Logic.{inl, inr}
 use mathlib.Core.Path.{◌≡◌, refl, sym}
-use Prim.Native.Nat.{ℕ, suc, ◌+◌, ◌-◌, ◌*◌, ◌/◌, ◌≤◌, ◌<◌}
+use Prim.Native.Nat.{ℕ, ◌+◌, ◌-◌, ◌*◌, ◌/◌, ◌≤◌, ◌<◌}
 use native.Mathlib.Nat.{mul_comm, mul_assoc, mul-le-mul}
 use native.Mathlib.Omega.{arith}
-use lib.Dec.{eqb}
-use lib.ListN.{length}
 use borrow.Author.Tests.{lt-leb}
 use Rattle.geometry.specs.Limits.{size_limit}
 use Rattle.endian.specs.Loops.{tri}
-use Rattle.geometry.specs.Geometry.{extent, bricks, entry_at, table_start, Brick}
+use Rattle.geometry.specs.Geometry.{extent, entry_at, Brick}
 use Rattle.geometry.specs.declared.Level.{Level}
 use Rattle.geometry.proofs.Levels.{at_direct, half_le, halved-small, small-two}
 use Rattle.geometry.proofs.Entries.{entry_is, entry_below}
-use Rattle.record.specs.Record.{side_of, size_of, count_of, bricks_along, bricks_of, brick_bytes_of, table_of, header_of, Sized}
-use Rattle.record.specs.Types.{coding_of, item_width, no_type, width_of}
-use Rattle.record.specs.declared.Coding.{Coding}
-use Rattle.record.specs.declared.Coding.TheVariants.{Scaled, Float32, NoType}
+use Rattle.record.specs.Record.{side_of, size_of, count_of, bricks_along, bricks_of, Sized}
 use Rattle.record.specs.declared.Record.{Record}
-use Rattle.record.proofs.Laws.{small, width-le}
-use Rattle.checks.specs.Checks.{breaks5}
+use Rattle.record.proofs.Laws.{small}
 use Rattle.checks.proofs.Described.{described_sized, described-few}
 use Rattle.checks.proofs.Records.{Fit, fits_all}
 use Rattle.table.specs.Entries.{kind_at, outside_at, table_in, breaks12}

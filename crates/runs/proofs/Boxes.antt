@@ -7,10 +7,9 @@ use native.Mathlib.Omega.{arith}
 use native.Mathlib.Decide.{dec_lt}
 use native.Mathlib.Nat.{zero-mul, suc-mul, add_assoc, add-mul, mul-zero, mul_assoc, mul-le-mul_right, mod-lt, div-add-mod', div-lt_iff_lt-mul, add-sub_of_le}
 use lib.Arith.{digits_lt, digits_div, digits_mod}
-use lib.Dec.{leb, ltb}
 use lib.ListN.{length, take, drop, length-drop, take-append-drop}
 use lib.Seq.{length-take-le, take_all, take-add, drop-drop, drop_at, take-append-le, drop-append-le}
-use borrow.Author.Tests.{ltb-true, leb-true, lt-ltb, le-leb}
+use borrow.Author.Tests.{lt-ltb, le-leb}
 use borrow.Rule.Slice.PartMut.{put_mid, mid_len, same_len_mid, drop_put}
 use Rattle.cube.proofs.Writes.{between-true}
 use Rattle.endian.specs.Loops.{cat, tri}

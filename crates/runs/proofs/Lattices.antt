@@ -5,7 +5,6 @@ use mathlib.Core.Path.{◌≡◌, sym, ap, subst, ◌∙◌}
 use mathlib.Core.List.{List}
 use native.Mathlib.Omega.{arith}
 use native.Mathlib.Nat.{mod-lt, mul-le-mul, le_trans, lt_of_lt_of_le, le-mul_of_pos_right}
-use lib.ListN.{length}
 use Rattle.geometry.specs.Limits.{count_room, side_room, brick_limit}
 use Rattle.endian.specs.Loops.{tri}
 use Rattle.geometry.specs.Geometry.{entry_at}

@@ -15,7 +15,7 @@ use Rattle.cube.specs.Regions.{run_of, place, size_of, place_at, chunk, store, w
 use Rattle.endian.proofs.Cats.{up_rule, up_same, up_up}
 use Rattle.cube.proofs.Places.{brick-lt}
 use Rattle.cube.proofs.Regions.{place_at_lem, Covered, write_passed}
-use Rattle.cube.proofs.Writes.{Kept, kept_refl, kept_kind, step_kept}
+use Rattle.cube.proofs.Writes.{Kept, kept_kind, step_kept}
 use Rattle.runs.specs.declared.Lattice.{Lattice}
 use Rattle.runs.specs.Runs.{lattice_of}
 use Rattle.runs.proofs.Steps.{ready, ready_fit, ready-kept}

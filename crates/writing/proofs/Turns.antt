@@ -3,7 +3,7 @@ use Prim.Native.Nat.{ℕ, ◌+◌, ◌-◌, ◌*◌, ◌≤◌, ◌<◌, zero-le
 use mathlib.Core.Path.{◌≡◌, refl, sym, ap, subst, ◌∙◌}
 use mathlib.Core.List.{List}
 use native.Mathlib.Omega.{arith}
-use native.Mathlib.Nat.{add_assoc, add-mul, le_trans, le_refl, le_step, mul-le-mul_right, add-sub_cancel_left}
+use native.Mathlib.Nat.{add_assoc, add-mul, le_trans, mul-le-mul_right, add-sub_cancel_left}
 use native.Mathlib.Numerals.{add-one}
 use lib.ListN.{length}
 use lib.Seq.{drop-drop}

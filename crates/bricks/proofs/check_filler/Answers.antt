@@ -23,7 +23,8 @@ pub returns-then-same_words : goal.returns-then-same_words
 unfolding raw_of
 returns-then-same_words c =
     let brick : c.table_in-t.result.brick ≡ brick_bytes_of c.args.r.description = brick-is _ _ c.table_in-t.ensures in
-    let judged : c.same_words.result ≡ filled_with (fill_of c.args.r (Constant c.args.value)) c.args.filler.now (item_bytes c.args.r) (brick_bytes_of c.args.r.description) = let p = derived _ c.requires.0 in
+    let judged : c.same_words.result ≡ filled_with (fill_of c.args.r (Constant c.args.value)) c.args.filler.now (item_bytes c.args.r) (brick_bytes_of c.args.r.description) =
+    let p = derived _ c.requires.0 in
     filled_is _ _ c.args.value c.repeated.result (described-width _ _ p)
     (rw (width_is _ _ c.table_in-t.ensures) at c.repeated.ensures) _ _ _
     (λ i. (c.type_inv.filler i).fits) (omega (arith, c.repeated.type_inv)) (rw brick (brick_words _ _ p)) c.same_words.ensures in
@@ -33,7 +34,8 @@ pub returns : goal.returns
 unfolding raw_of
 returns c =
     let brick : c.table_in-t.result.brick ≡ brick_bytes_of c.args.r.description = brick-is _ _ c.table_in-t.ensures in
-    let judged : c.same_words.result ≡ filled_with (fill_of c.args.r (Constant c.args.value)) c.args.filler.now (item_bytes c.args.r) (brick_bytes_of c.args.r.description) = let p = derived _ c.requires.0 in
+    let judged : c.same_words.result ≡ filled_with (fill_of c.args.r (Constant c.args.value)) c.args.filler.now (item_bytes c.args.r) (brick_bytes_of c.args.r.description) =
+    let p = derived _ c.requires.0 in
     filled_is _ _ c.args.value c.repeated.result (described-width _ _ p)
     (rw (width_is _ _ c.table_in-t.ensures) at c.repeated.ensures) _ _ _
     (λ i. (c.type_inv.filler i).fits) (omega (arith, c.repeated.type_inv)) (rw brick (brick_words _ _ p)) c.same_words.ensures in

@@ -1,4 +1,3 @@
-use Prim.Native.Nat.{◌-◌}
 use Rattle.endian.proofs.Parts.{turns_none, turns_more}
 use Rattle.reading.proofs.fill.Goals as goal
 
@@ -7,4 +6,4 @@ loop-t-init c = turns_none _ _ _ _ c.requires
 
 pub loop-t-preserved : goal.loop-t-preserved
 loop-t-preserved c =
-            turns_more c.loop-t.invariant c.loop-t-test.true c.put_value.auto.out c.put_value.ensures
+    turns_more c.loop-t.invariant c.loop-t-test.true c.put_value.auto.out c.put_value.ensures

@@ -1,4 +1,3 @@
-use Prim.Native.Nat.{◌-◌}
 use mathlib.Core.Path.{sym}
 use native.Mathlib.Omega.{arith}
 use native.Mathlib.Nat.{div-one}
@@ -13,4 +12,4 @@ loop-t-init c = (filled_none _, sym (div-one _), omega arith)
 
 pub loop-t-preserved : goal.loop-t-preserved
 loop-t-preserved c =
-        (filled_store _ c.loop-t.invariant.0 (omega arith) (rw (c.loop-t.invariant.1, lows-more)), rw (c.loop-t.invariant.1, value_more), omega arith)
+    (filled_store _ c.loop-t.invariant.0 (omega arith) (rw (c.loop-t.invariant.1, lows-more)), rw (c.loop-t.invariant.1, value_more), omega arith)

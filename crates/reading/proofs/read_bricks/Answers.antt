@@ -1,4 +1,4 @@
-use Prim.Native.Nat.{◌-◌, ◌<◌}
+use Prim.Native.Nat.{◌<◌}
 use mathlib.Core.Path.{◌≡◌, refl, ◌∙◌}
 use native.Mathlib.Omega.{arith}
 use native.Mathlib.Nat.{zero-add}
@@ -42,4 +42,4 @@ unfolding raw_rows
 returns c =
     let count : c.args.q.count0 ≡ run_of c.args.g 0 = (counts c.args.r c.args.file.now c.args.g c.args.q c.requires.ready.0).0 in
     let e : c.loop-i.i ≡ run_of c.args.g 0 = omega (arith, count) in
-        boxed_all c.requires.ready.1 (rw e at c.loop-i.invariant.0) ∙ by_place c.args.g (λ p. raw_of c.args.r (rows_of c.args.r c.args.file.now p))
+    boxed_all c.requires.ready.1 (rw e at c.loop-i.invariant.0) ∙ by_place c.args.g (λ p. raw_of c.args.r (rows_of c.args.r c.args.file.now p))

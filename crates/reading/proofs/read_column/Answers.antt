@@ -1,4 +1,4 @@
-use Prim.Native.Nat.{◌+◌, ◌-◌}
+use Prim.Native.Nat.{◌+◌}
 use mathlib.Core.Path.{◌≡◌, ◌∙◌}
 use native.Mathlib.Omega.{arith}
 use Rattle.runs.specs.Boxes.{Along}
@@ -16,7 +16,7 @@ read_boxes-requires c =
 
 pub loop-t-preserved : goal.loop-t-preserved
 loop-t-preserved c =
-        (boxed_more0 c.loop-t.invariant.0 c.read_boxes.ensures, omega (arith, c.at_once-c.ensures.1, c.loop-t-test.true))
+    (boxed_more0 c.loop-t.invariant.0 c.read_boxes.ensures, omega (arith, c.at_once-c.ensures.1, c.loop-t-test.true))
 
 pub returns : goal.returns
 returns c = let e : c.loop-t.t ≡ c.args.ni = omega arith in rw e at c.loop-t.invariant.0

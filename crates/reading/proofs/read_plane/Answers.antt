@@ -70,7 +70,7 @@ read_items-requires c =
     let width : c.index-w.result ≡ item_bytes c.args.r = c.index-w.ensures.0 ∙ ready-width _ _ _ _ c.requires.ready.0 in
     let all : c.args.nk ≡ c.args.q.count2 = c.if-nk-q-2.true in
     let f = columns_asks rows width c.if-nk-q.true all in
- record {
+    record {
       width = (f.0, omega arith);
       by_index = f.1;
     }

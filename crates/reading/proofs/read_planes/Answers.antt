@@ -1,4 +1,4 @@
-use Prim.Native.Nat.{◌+◌, ◌-◌, ◌*◌}
+use Prim.Native.Nat.{◌+◌, ◌*◌}
 use mathlib.Core.Path.{◌≡◌, ◌∙◌}
 use native.Mathlib.Omega.{arith}
 use Rattle.runs.proofs.Boxes.{boxed_more0}
@@ -22,7 +22,7 @@ pub read_plane-requires : goal.read_plane-requires
 read_plane-requires c =
     let turn : Rows c.args.r c.args.file.now c.args.g c.args.q c.args.kind (c.args.item + c.loop-t.t * (c.args.q.side1 * c.args.q.side2)) (c.args.i + c.loop-t.t) c.args.j c.args.k c.args.nj c.args.nk = inline_of c.requires.ready.0 c.requires.along.0 c.requires.along.1 c.requires.along.2 c.requires.kind_value.0 c.requires.kind_value.1 c.loop-t-test.true in
     let z = turn in
- record {
+    record {
       ready = (c.requires.ready.0, c.loop-t.invariant.0.size ∙ c.requires.ready.1);
       i_bound = (z.in_i, z.in_j, z.in_k);
       kind_value = (z.kind, z.item);

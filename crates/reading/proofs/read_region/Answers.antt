@@ -53,7 +53,7 @@ read_bricks-requires c =
     let products : Sizes c.args.r c.args.g c.lattice_of-q.result c.index.result (length c.args.out.now) = sizes c.args.r c.args.file.now c.args.g c.lattice_of-q.result c.index.result (length c.args.out.now) passed c.lattice_of-q.ensures c.index.ensures.0 in
     let h = passed in
     let p = products in
- record {
+    record {
       ready = (ready c.args.r c.args.file.now c.args.g _ _ h _ c.lattice_of-q.ensures, length-take-le _ _ p.whole_in ∙ p.size);
       nonzero = (omega (arith, h.region.run1), omega (arith, h.region.run2));
     }
@@ -63,7 +63,7 @@ returns c =
     let passed : Passed c.args.r c.args.file.now c.args.g (length c.args.out.now) (size_of c.args.g * item_bytes c.args.r) = raw_passed c.args.r c.args.file.now c.args.g (length c.args.out.now) c.requires in
     let products : Sizes c.args.r c.args.g c.lattice_of-q.result c.index.result (length c.args.out.now) = sizes c.args.r c.args.file.now c.args.g c.lattice_of-q.result c.index.result (length c.args.out.now) passed c.lattice_of-q.ensures c.index.ensures.0 in
     let p = products in
- record {
+    record {
       count = p.size;
       buffer = front_over _ _ _ _ c.read_bricks.ensures (passed_length c.args.r c.args.file.now c.args.g _ _ passed ∙ sym p.size);
     }

@@ -1,4 +1,4 @@
-use Prim.Native.Nat.{◌+◌, ◌-◌, ◌*◌}
+use Prim.Native.Nat.{◌+◌, ◌*◌}
 use mathlib.Core.Path.{◌≡◌, refl, ◌∙◌}
 use native.Mathlib.Omega.{arith}
 use lib.ListN.{length}
@@ -85,19 +85,18 @@ read_items-requires c =
     let width : c.index-w.result ≡ item_bytes c.args.r = c.index-w.ensures.0 ∙ ready-width _ _ _ _ c.requires.ready.0 in
     let turn : Rows c.args.r c.args.file.now c.args.g c.args.q c.args.kind (c.args.item + c.loop-t.t * c.args.q.side2) c.args.i (c.args.j + c.loop-t.t) c.args.k 1 c.args.nk = row_of rows c.loop-t-test.true in
     let f = row_asks turn width in
- record {
+    record {
       width = (f.0, omega arith);
       by_index = f.1;
     }
 
 pub loop-t-preserved : goal.loop-t-preserved
-loop-t-preserved c =
-        (
-      λ r g h e.
-          let b = c.loop-t.invariant.0 r g h e in
-          boxed_more1 b (row_box (row_of h c.loop-t-test.true) (c.index-w.ensures.0 ∙ ready-width _ _ _ _ h.ready) _ _ _ _ (b.size ∙ e) refl refl c.read_items.ensures),
-      omega arith,
-    )
+loop-t-preserved c = (
+  λ r g h e.
+      let b = c.loop-t.invariant.0 r g h e in
+      boxed_more1 b (row_box (row_of h c.loop-t-test.true) (c.index-w.ensures.0 ∙ ready-width _ _ _ _ h.ready) _ _ _ _ (b.size ∙ e) refl refl c.read_items.ensures),
+  omega arith,
+)
 
 pub returns : goal.returns
 returns c =

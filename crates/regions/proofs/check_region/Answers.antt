@@ -9,28 +9,30 @@ returns-then-check14_with c = c.refuse.ensures ∙ stop14 _ _ _ _ _ _ (sym c.che
 
 pub returns-then-r-g : goal.returns-then-r-g
 returns-then-r-g c =
-            c.refuse-then-r-g.ensures ∙ stop15 c.args.r c.args.file.now c.args.g _ _ _ (sym c.check14_with.ensures ∙ c.if-check14_with.false) (omega (arith, c.if-r-g.true))
+    c.refuse-then-r-g.ensures ∙ stop15 c.args.r c.args.file.now c.args.g _ _ _ (sym c.check14_with.ensures ∙ c.if-check14_with.false) (omega (arith, c.if-r-g.true))
 
 pub in_extent-requires : goal.in_extent-requires
 in_extent-requires c =
-        allowed_of _ _ _ (sym c.check14_with.ensures ∙ c.if-check14_with.false) c.if-r-g.false
+    allowed_of _ _ _ (sym c.check14_with.ensures ∙ c.if-check14_with.false) c.if-r-g.false
 
 pub returns-then-not-in_extent : goal.returns-then-not-in_extent
 returns-then-not-in_extent c =
-            c.refuse-then-not-in_extent.ensures ∙ stop16 _ _ _ _ _ _ (sym c.check14_with.ensures ∙ c.if-check14_with.false) c.if-r-g.false (sym c.in_extent.ensures ∙ c.if-not-in_extent.true)
+    c.refuse-then-not-in_extent.ensures ∙ stop16 _ _ _ _ _ _ (sym c.check14_with.ensures ∙ c.if-check14_with.false) c.if-r-g.false (sym c.in_extent.ensures ∙ c.if-not-in_extent.true)
 
 pub needed-requires : goal.needed-requires
 needed-requires c =
-                ((passed_of _ _ _ (sym c.check14_with.ensures ∙ c.if-check14_with.false) c.if-r-g.false (sym c.in_extent.ensures ∙ c.if-not-in_extent.false)).0, omega (arith, c.requires))
+    ((passed_of _ _ _ (sym c.check14_with.ensures ∙ c.if-check14_with.false) c.if-r-g.false (sym c.in_extent.ensures ∙ c.if-not-in_extent.false)).0, omega (arith, c.requires))
 
 pub returns-then-room-needed : goal.returns-then-room-needed
 returns-then-room-needed c =
-                c.refuse-then-room-needed.ensures ∙ stop18 _ _ _ _ _ _ (sym c.check14_with.ensures ∙ c.if-check14_with.false) c.if-r-g.false (sym c.in_extent.ensures ∙ c.if-not-in_extent.false) (rw (← c.needed.ensures) c.if-room-needed.true)
+    c.refuse-then-room-needed.ensures ∙ stop18 _ _ _ _ _ _ (sym c.check14_with.ensures ∙ c.if-check14_with.false) c.if-r-g.false (sym c.in_extent.ensures ∙ c.if-not-in_extent.false)
+    (rw (← c.needed.ensures) c.if-room-needed.true)
 
 pub check_entries-requires : goal.check_entries-requires
 check_entries-requires c =
-                passed_of _ _ _ (sym c.check14_with.ensures ∙ c.if-check14_with.false) c.if-r-g.false (sym c.in_extent.ensures ∙ c.if-not-in_extent.false)
+    passed_of _ _ _ (sym c.check14_with.ensures ∙ c.if-check14_with.false) c.if-r-g.false (sym c.in_extent.ensures ∙ c.if-not-in_extent.false)
 
 pub returns : goal.returns
 returns c =
-                c.check_entries.ensures ∙ go_on _ _ _ _ _ _ (sym c.check14_with.ensures ∙ c.if-check14_with.false) c.if-r-g.false (sym c.in_extent.ensures ∙ c.if-not-in_extent.false) (rw (← c.needed.ensures) c.if-room-needed.false)
+    c.check_entries.ensures ∙ go_on _ _ _ _ _ _ (sym c.check14_with.ensures ∙ c.if-check14_with.false) c.if-r-g.false (sym c.in_extent.ensures ∙ c.if-not-in_extent.false)
+    (rw (← c.needed.ensures) c.if-room-needed.false)

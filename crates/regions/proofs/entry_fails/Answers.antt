@@ -1,6 +1,5 @@
 use mathlib.Core.Bool.{not}
 use mathlib.Core.Path.{ap, ◌∙◌}
-use Rattle.cube.specs.Regions.{is_stored}
 use Rattle.regions.proofs.Blocks.{fails_19, fails_12}
 use Rattle.regions.proofs.entry_fails.Goals as goal
 

@@ -1,4 +1,3 @@
-use Prim.Native.Nat.{◌-◌}
 use native.Mathlib.Omega.{arith}
 use Rattle.regions.specs.Search.{entries_in}
 use Rattle.regions.proofs.Finds.{find_start, part_hit, part_more, part_none}
@@ -10,13 +9,13 @@ loop-z-init c = (omega arith, find_start _ _)
 pub returns-in-At : goal.returns-in-At
 unfolding entries_in
 returns-in-At c =
-            part_hit _ _ c.args.b.vertical c.loop-z.z c.in-At.entry _ (omega arith) c.loop-z.invariant.1 c.search_layer-found.ensures c.in-At.is
+    part_hit _ _ c.args.b.vertical c.loop-z.z c.in-At.entry _ (omega arith) c.loop-z.invariant.1 c.search_layer-found.ensures c.in-At.is
 
 pub loop-z-preserved : goal.loop-z-preserved
 loop-z-preserved c =
-        (omega arith, part_more _ _ c.loop-z.z _ c.loop-z.invariant.1 c.search_layer-found.ensures c.in_default.is)
+    (omega arith, part_more _ _ c.loop-z.z _ c.loop-z.invariant.1 c.search_layer-found.ensures c.in_default.is)
 
 pub returns : goal.returns
 unfolding entries_in
 returns c =
-        part_none _ _ c.args.b.vertical c.loop-z.z (omega arith) c.loop-z.invariant.1
+    part_none _ _ c.args.b.vertical c.loop-z.z (omega arith) c.loop-z.invariant.1

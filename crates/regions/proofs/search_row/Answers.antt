@@ -1,5 +1,4 @@
 use Rattle.regions.proofs.Finds.{row_hit, row_more, find_start}
-use Prim.Native.Nat.{◌-◌}
 use native.Mathlib.Omega.{arith}
 use mathlib.Core.Path.{sym, ◌∙◌}
 use Rattle.regions.specs.Search.{fails}
@@ -10,8 +9,8 @@ loop-x-init c = (omega arith, find_start _ _)
 
 pub returns-then-entry_fails : goal.returns-then-entry_fails
 returns-then-entry_fails c =
-            row_hit (fails c.args.stored c.args.t c.args.file.now) c.args.from c.args.count c.loop-x.x (omega arith) c.loop-x.invariant.1 (sym c.entry_fails.ensures ∙ c.if-entry_fails.true)
+    row_hit (fails c.args.stored c.args.t c.args.file.now) c.args.from c.args.count c.loop-x.x (omega arith) c.loop-x.invariant.1 (sym c.entry_fails.ensures ∙ c.if-entry_fails.true)
 
 pub loop-x-preserved : goal.loop-x-preserved
 loop-x-preserved c =
-        (omega arith, row_more _ _ c.loop-x.x c.loop-x.invariant.1 (sym c.entry_fails.ensures ∙ c.if-entry_fails.false))
+    (omega arith, row_more _ _ c.loop-x.x c.loop-x.invariant.1 (sym c.entry_fails.ensures ∙ c.if-entry_fails.false))

@@ -41,5 +41,5 @@ entry_at-requires c =
 
 pub returns : goal.returns
 returns c =
-            c.entry_at.ensures
+    c.entry_at.ensures
     ∙ rw (c.over-z.ensures, c.over-y.ensures, c.over-x.ensures) (entry_made c.args.r c.args.g c.args.q c.args.i c.args.j c.args.k c.requires)

@@ -54,4 +54,4 @@ overflow_add-result-2 c =
 
 pub returns : goal.returns
 returns c =
-        rw (c.beyond-z.ensures, c.beyond-y.ensures, c.beyond-x.ensures) (item_made c.args.r c.args.g c.args.q c.args.i c.args.j c.args.k c.requires)
+    rw (c.beyond-z.ensures, c.beyond-y.ensures, c.beyond-x.ensures) (item_made c.args.r c.args.g c.args.q c.args.i c.args.j c.args.k c.requires)

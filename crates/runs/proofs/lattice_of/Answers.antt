@@ -4,14 +4,14 @@ use Rattle.runs.proofs.lattice_of.Goals as goal
 
 pub level_in-level-requires : goal.level_in-level-requires
 level_in-level-requires c =
-        level_asks c.args.r c.args.g c.requires
+    level_asks c.args.r c.args.g c.requires
 
 pub table_in-requires : goal.table_in-requires
 table_in-requires c = fits_derived _ c.requires.fitting
 
 pub returns : goal.returns
 returns c =
-            lattice_made c.args.r c.args.g c.requires _ _ _ _ _ _ _ _ _ _ _ _ _
+    lattice_made c.args.r c.args.g c.requires _ _ _ _ _ _ _ _ _ _ _ _ _
     c.table_in.ensures
     c.level_in-level.ensures
     c.index.ensures.0

@@ -11,4 +11,4 @@ left-requires c =
 
 pub returns : goal.returns
 returns c =
-            c.left.ensures ∙ ap (λ (x : ℕ). min x c.args.n) (left_made c.args.r c.args.g c.args.q c.args.i c.args.j c.args.k c.requires)
+    c.left.ensures ∙ ap (λ (x : ℕ). min x c.args.n) (left_made c.args.r c.args.g c.args.q c.args.i c.args.j c.args.k c.requires)

@@ -21,4 +21,5 @@ returns c =
     let os = offset_at c.args.t c.args.file.now in
     let p = placed c.args.t c.args.file.now c.requires.count_value in
     lowest-is c.args.t c.args.file.now c.args.t.count c.loop-start.best c.loop-start.invariant.0
-    (left_end os c.args.t.count c.args.t.brick c.args.t.header (2 ^ 63) c.loop-start.start c.loop-start.best c.loop-start.invariant.0 p c.loop-start-test.false c.loop-start.invariant.2) c.loop-start.invariant.3
+    (left_end os c.args.t.count c.args.t.brick c.args.t.header (2 ^ 63) c.loop-start.start c.loop-start.best c.loop-start.invariant.0 p c.loop-start-test.false c.loop-start.invariant.2)
+    c.loop-start.invariant.3

@@ -5,8 +5,10 @@ use Rattle.table.proofs.Tables.{derived, derived_sized, derived_few, table_made}
 use Rattle.table.proofs.table_in.Goals as goal
 
 pub table_start-start-requires : goal.table_start-start-requires
-table_start-start-requires c =
-    (omega (arith, described_text _ _ (derived c.args.r c.requires)), omega (arith, alphas-few c.args.r.description (derived_sized c.args.r c.requires), derived_few c.args.r c.requires, c.requires.alphas-is))
+table_start-start-requires c = (
+  omega (arith, described_text _ _ (derived c.args.r c.requires)),
+  omega (arith, alphas-few c.args.r.description (derived_sized c.args.r c.requires), derived_few c.args.r c.requires, c.requires.alphas-is),
+)
 
 pub brick_bytes_in-requires : goal.brick_bytes_in-requires
 brick_bytes_in-requires c = derived_sized c.args.r c.requires

@@ -1,4 +1,4 @@
-use Prim.Native.Nat.{◌<◌, ◌-◌}
+use Prim.Native.Nat.{◌<◌}
 use mathlib.Core.Path.{◌≡◌}
 use native.Mathlib.Omega.{arith}
 use native.Mathlib.Nat.{le_refl}
@@ -31,8 +31,7 @@ overflow_add-a c =
 pub loop-j-preserved : goal.loop-j-preserved
 loop-j-preserved c =
     let count : c.args.q.count1 ≡ run_of c.args.g 1 = (counts c.args.r c.args.file.now c.args.g c.args.q c.requires.writable.ready).1 in
-    let here : c.loop-j.j < run_of c.args.g 1 = omega (arith, count, c.loop-j-test.true) in
-    (
+    let here : c.loop-j.j < run_of c.args.g 1 = omega (arith, count, c.loop-j-test.true) in (
       writes_more c.args.r c.loop-j.invariant.0 here c.write_run.ensures
           (run_kept c.args.r c.args.file.now c.args.g c.args.q c.args.input.now c.requires.writable c.args.i c.requires.i_bound.0 c.loop-j.j here c.loop-j.file c.loop-j.invariant.0.kept (run_of c.args.g 2) (le_refl (run_of c.args.g 2))),
       omega (arith, c.loop-j.invariant.1, c.requires.i_bound.1),

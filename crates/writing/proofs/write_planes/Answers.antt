@@ -1,4 +1,4 @@
-use Prim.Native.Nat.{ℕ, ◌<◌, ◌-◌, ◌*◌}
+use Prim.Native.Nat.{ℕ, ◌<◌, ◌*◌}
 use mathlib.Core.Path.{◌≡◌, ap, ◌∙◌}
 use native.Mathlib.Omega.{arith}
 use native.Mathlib.Nat.{le_refl, zero-mul}
@@ -34,8 +34,7 @@ pub loop-i-preserved : goal.loop-i-preserved
 loop-i-preserved c =
     let count : c.args.q.count0 ≡ run_of c.args.g 0 = (counts c.args.r c.args.file.now c.args.g c.args.q c.requires.writable.ready).0 in
     let here : c.loop-i.i < run_of c.args.g 0 = omega (arith, count, c.loop-i-test.true) in
-    let bytes : c.args.plane ≡ run_of c.args.g 1 * (run_of c.args.g 2 * item_bytes c.args.r) = c.requires.run_value.1 ∙ ap (λ (x : ℕ). run_of c.args.g 1 * x) c.requires.run_value.0 in
-    (
+    let bytes : c.args.plane ≡ run_of c.args.g 1 * (run_of c.args.g 2 * item_bytes c.args.r) = c.requires.run_value.1 ∙ ap (λ (x : ℕ). run_of c.args.g 1 * x) c.requires.run_value.0 in (
       writes_more c.args.r c.loop-i.invariant.0 here c.write_plane.ensures
           (plane_kept c.args.r c.args.file.now c.args.g c.args.q c.args.input.now c.requires.writable c.loop-i.i here c.loop-i.file c.loop-i.invariant.0.kept (run_of c.args.g 1) (le_refl (run_of c.args.g 1))),
       omega (arith, c.loop-i.invariant.1, bytes),

@@ -37,7 +37,7 @@ write_planes-requires c =
     let passed : Passed c.args.r c.args.file.now c.args.g (length c.args.input.now) (size_of c.args.g * item_bytes c.args.r) = (write_passed c.args.r c.args.file.now c.args.g (length c.args.input.now) c.requires).0 in
     let products : Sizes c.args.r c.args.g c.lattice_of-q.result c.index.result (length c.args.input.now) = sizes c.args.r c.args.file.now c.args.g c.lattice_of-q.result c.index.result (length c.args.input.now) passed c.lattice_of-q.ensures c.index.ensures.0 in
     let p = products in
- record {
+    record {
       writable = writable c.args.r c.args.file.now c.args.g _ c.args.input.now c.requires c.lattice_of-q.ensures;
       run_value = (p.run, p.plane);
     }

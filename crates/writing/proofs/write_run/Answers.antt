@@ -1,4 +1,4 @@
-use Prim.Native.Nat.{ℕ, ◌≤◌, ◌<◌, ◌+◌, ◌-◌, ◌*◌}
+use Prim.Native.Nat.{ℕ, ◌≤◌, ◌<◌, ◌+◌, ◌*◌}
 use mathlib.Core.Path.{◌≡◌, refl, sym, ap, subst, ◌∙◌}
 use native.Mathlib.Omega.{arith}
 use lib.ListN.{length}
@@ -96,8 +96,7 @@ loop-k-preserved c =
     let here : c.loop-k.k < run_of c.args.g 2 = omega (arith, count, c.loop-k-test.true) in
     let turn : Step c.args.r c.args.g c.loop-k.k c.args.q.count2 c.span-c.result = step c.args.r c.args.g c.loop-k.k c.args.q.count2 c.span-c.result
     (ready_fit c.args.r c.args.file.now c.args.g c.args.q c.requires.writable.ready) c.loop-k-test.true c.span-c.ensures in
-    let within : c.loop-k.k + c.span-c.result ≤ run_of c.args.g 2 = omega (arith, turn.left, count) in
-    (
+    let within : c.loop-k.k + c.span-c.result ≤ run_of c.args.g 2 = omega (arith, turn.left, count) in (
       run_more c.args.r c.args.g c.args.input.now c.args.i c.args.j c.loop-k.k c.span-c.result c.args.file.now c.loop-k.file _ c.loop-k.invariant.0
           (c.write_items.ensures
           ∙ turn-put c.args.r c.loop-k.file c.args.g c.args.q c.args.input.now still c.args.i c.args.j c.loop-k.k c.args.q.count2 c.span-c.result c.requires.i_bound.0 c.requires.i_bound.1 here turn
