@@ -8,7 +8,8 @@ use Rattle.reading.proofs.read_column.Goals as goal
 
 pub read_boxes-requires : goal.read_boxes-requires
 read_boxes-requires c =
-    let turn : Along c.args.r c.args.g 0 (c.args.i + c.loop-t.t) c.at_once-c.result = along_part _ _ 0 _ c.args.ni _ _ c.requires.along.0 c.at_once-c.ensures.0 (omega (arith, c.at_once-c.ensures.1, c.loop-t-test.true)) in
+    let turn : Along c.args.r c.args.g 0 (c.args.i + c.loop-t.t) c.at_once-c.result =
+    along_part _ _ 0 _ c.args.ni _ _ c.requires.along.0 c.at_once-c.ensures.0 (omega (arith, c.at_once-c.ensures.1, c.loop-t-test.true)) in
     record {
       ready = (c.requires.ready.0, c.loop-t.invariant.0.size ∙ c.requires.ready.1);
       along = (turn, c.requires.along.1);

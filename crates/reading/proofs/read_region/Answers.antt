@@ -14,43 +14,56 @@ use Rattle.reading.proofs.read_region.Goals as goal
 
 pub lattice_of-q-requires : goal.lattice_of-q-requires
 lattice_of-q-requires c =
-    let passed : Passed c.args.r c.args.file.now c.args.g (length c.args.out.now) (size_of c.args.g * item_bytes c.args.r) = raw_passed c.args.r c.args.file.now c.args.g (length c.args.out.now) c.requires in
+    let passed : Passed c.args.r c.args.file.now c.args.g (length c.args.out.now) (size_of c.args.g * item_bytes c.args.r) =
+    raw_passed c.args.r c.args.file.now c.args.g (length c.args.out.now) c.requires in
     allowed c.args.r c.args.file.now c.args.g _ _ passed
 
 pub overflow_mul-n : goal.overflow_mul-n
 overflow_mul-n c =
-    let passed : Passed c.args.r c.args.file.now c.args.g (length c.args.out.now) (size_of c.args.g * item_bytes c.args.r) = raw_passed c.args.r c.args.file.now c.args.g (length c.args.out.now) c.requires in
-    let products : Sizes c.args.r c.args.g c.lattice_of-q.result c.index.result (length c.args.out.now) = sizes c.args.r c.args.file.now c.args.g c.lattice_of-q.result c.index.result (length c.args.out.now) passed c.lattice_of-q.ensures c.index.ensures.0 in
+    let passed : Passed c.args.r c.args.file.now c.args.g (length c.args.out.now) (size_of c.args.g * item_bytes c.args.r) =
+    raw_passed c.args.r c.args.file.now c.args.g (length c.args.out.now) c.requires in
+    let products : Sizes c.args.r c.args.g c.lattice_of-q.result c.index.result (length c.args.out.now) =
+    sizes c.args.r c.args.file.now c.args.g c.lattice_of-q.result c.index.result (length c.args.out.now) passed c.lattice_of-q.ensures c.index.ensures.0 in
     omega (arith, products)
 
 pub overflow_mul-n-2 : goal.overflow_mul-n-2
 overflow_mul-n-2 c =
-    let passed : Passed c.args.r c.args.file.now c.args.g (length c.args.out.now) (size_of c.args.g * item_bytes c.args.r) = raw_passed c.args.r c.args.file.now c.args.g (length c.args.out.now) c.requires in
-    let products : Sizes c.args.r c.args.g c.lattice_of-q.result c.index.result (length c.args.out.now) = sizes c.args.r c.args.file.now c.args.g c.lattice_of-q.result c.index.result (length c.args.out.now) passed c.lattice_of-q.ensures c.index.ensures.0 in
+    let passed : Passed c.args.r c.args.file.now c.args.g (length c.args.out.now) (size_of c.args.g * item_bytes c.args.r) =
+    raw_passed c.args.r c.args.file.now c.args.g (length c.args.out.now) c.requires in
+    let products : Sizes c.args.r c.args.g c.lattice_of-q.result c.index.result (length c.args.out.now) =
+    sizes c.args.r c.args.file.now c.args.g c.lattice_of-q.result c.index.result (length c.args.out.now) passed c.lattice_of-q.ensures c.index.ensures.0 in
     omega (arith, products)
 
 pub overflow_mul-n-3 : goal.overflow_mul-n-3
 overflow_mul-n-3 c =
-    let passed : Passed c.args.r c.args.file.now c.args.g (length c.args.out.now) (size_of c.args.g * item_bytes c.args.r) = raw_passed c.args.r c.args.file.now c.args.g (length c.args.out.now) c.requires in
-    let products : Sizes c.args.r c.args.g c.lattice_of-q.result c.index.result (length c.args.out.now) = sizes c.args.r c.args.file.now c.args.g c.lattice_of-q.result c.index.result (length c.args.out.now) passed c.lattice_of-q.ensures c.index.ensures.0 in
+    let passed : Passed c.args.r c.args.file.now c.args.g (length c.args.out.now) (size_of c.args.g * item_bytes c.args.r) =
+    raw_passed c.args.r c.args.file.now c.args.g (length c.args.out.now) c.requires in
+    let products : Sizes c.args.r c.args.g c.lattice_of-q.result c.index.result (length c.args.out.now) =
+    sizes c.args.r c.args.file.now c.args.g c.lattice_of-q.result c.index.result (length c.args.out.now) passed c.lattice_of-q.ensures c.index.ensures.0 in
     omega (arith, products)
 
 pub slice_bounds-read_bricks-end : goal.slice_bounds-read_bricks-end
 slice_bounds-read_bricks-end c =
-    let passed : Passed c.args.r c.args.file.now c.args.g (length c.args.out.now) (size_of c.args.g * item_bytes c.args.r) = raw_passed c.args.r c.args.file.now c.args.g (length c.args.out.now) c.requires in
-    let products : Sizes c.args.r c.args.g c.lattice_of-q.result c.index.result (length c.args.out.now) = sizes c.args.r c.args.file.now c.args.g c.lattice_of-q.result c.index.result (length c.args.out.now) passed c.lattice_of-q.ensures c.index.ensures.0 in
+    let passed : Passed c.args.r c.args.file.now c.args.g (length c.args.out.now) (size_of c.args.g * item_bytes c.args.r) =
+    raw_passed c.args.r c.args.file.now c.args.g (length c.args.out.now) c.requires in
+    let products : Sizes c.args.r c.args.g c.lattice_of-q.result c.index.result (length c.args.out.now) =
+    sizes c.args.r c.args.file.now c.args.g c.lattice_of-q.result c.index.result (length c.args.out.now) passed c.lattice_of-q.ensures c.index.ensures.0 in
     omega (arith, products)
 
 pub slice_bounds-read_bricks-end-2 : goal.slice_bounds-read_bricks-end-2
 slice_bounds-read_bricks-end-2 c =
-    let passed : Passed c.args.r c.args.file.now c.args.g (length c.args.out.now) (size_of c.args.g * item_bytes c.args.r) = raw_passed c.args.r c.args.file.now c.args.g (length c.args.out.now) c.requires in
-    let products : Sizes c.args.r c.args.g c.lattice_of-q.result c.index.result (length c.args.out.now) = sizes c.args.r c.args.file.now c.args.g c.lattice_of-q.result c.index.result (length c.args.out.now) passed c.lattice_of-q.ensures c.index.ensures.0 in
+    let passed : Passed c.args.r c.args.file.now c.args.g (length c.args.out.now) (size_of c.args.g * item_bytes c.args.r) =
+    raw_passed c.args.r c.args.file.now c.args.g (length c.args.out.now) c.requires in
+    let products : Sizes c.args.r c.args.g c.lattice_of-q.result c.index.result (length c.args.out.now) =
+    sizes c.args.r c.args.file.now c.args.g c.lattice_of-q.result c.index.result (length c.args.out.now) passed c.lattice_of-q.ensures c.index.ensures.0 in
     sym (length-take-le _ _ products.whole_in)
 
 pub read_bricks-requires : goal.read_bricks-requires
 read_bricks-requires c =
-    let passed : Passed c.args.r c.args.file.now c.args.g (length c.args.out.now) (size_of c.args.g * item_bytes c.args.r) = raw_passed c.args.r c.args.file.now c.args.g (length c.args.out.now) c.requires in
-    let products : Sizes c.args.r c.args.g c.lattice_of-q.result c.index.result (length c.args.out.now) = sizes c.args.r c.args.file.now c.args.g c.lattice_of-q.result c.index.result (length c.args.out.now) passed c.lattice_of-q.ensures c.index.ensures.0 in
+    let passed : Passed c.args.r c.args.file.now c.args.g (length c.args.out.now) (size_of c.args.g * item_bytes c.args.r) =
+    raw_passed c.args.r c.args.file.now c.args.g (length c.args.out.now) c.requires in
+    let products : Sizes c.args.r c.args.g c.lattice_of-q.result c.index.result (length c.args.out.now) =
+    sizes c.args.r c.args.file.now c.args.g c.lattice_of-q.result c.index.result (length c.args.out.now) passed c.lattice_of-q.ensures c.index.ensures.0 in
     let h = passed in
     let p = products in
     record {
@@ -60,8 +73,10 @@ read_bricks-requires c =
 
 pub returns : goal.returns
 returns c =
-    let passed : Passed c.args.r c.args.file.now c.args.g (length c.args.out.now) (size_of c.args.g * item_bytes c.args.r) = raw_passed c.args.r c.args.file.now c.args.g (length c.args.out.now) c.requires in
-    let products : Sizes c.args.r c.args.g c.lattice_of-q.result c.index.result (length c.args.out.now) = sizes c.args.r c.args.file.now c.args.g c.lattice_of-q.result c.index.result (length c.args.out.now) passed c.lattice_of-q.ensures c.index.ensures.0 in
+    let passed : Passed c.args.r c.args.file.now c.args.g (length c.args.out.now) (size_of c.args.g * item_bytes c.args.r) =
+    raw_passed c.args.r c.args.file.now c.args.g (length c.args.out.now) c.requires in
+    let products : Sizes c.args.r c.args.g c.lattice_of-q.result c.index.result (length c.args.out.now) =
+    sizes c.args.r c.args.file.now c.args.g c.lattice_of-q.result c.index.result (length c.args.out.now) passed c.lattice_of-q.ensures c.index.ensures.0 in
     let p = products in
     record {
       count = p.size;

@@ -16,7 +16,8 @@ pub write_run-requires : goal.write_run-requires
 write_run-requires c =
     let count : c.args.q.count1 ≡ run_of c.args.g 1 = (counts c.args.r c.args.file.now c.args.g c.args.q c.requires.writable.ready).1 in
     let here : c.loop-j.j < run_of c.args.g 1 = omega (arith, count, c.loop-j-test.true) in
-    let still : Writable c.args.r c.loop-j.file c.args.g c.args.q c.args.input.now = writable_kept c.args.r c.args.file.now c.args.g c.args.q c.args.input.now c.requires.writable c.loop-j.file c.loop-j.invariant.0.kept in
+    let still : Writable c.args.r c.loop-j.file c.args.g c.args.q c.args.input.now =
+    writable_kept c.args.r c.args.file.now c.args.g c.args.q c.args.input.now c.requires.writable c.loop-j.file c.loop-j.invariant.0.kept in
     record {
       writable = still;
       i_bound = (c.requires.i_bound.0, here, c.loop-j.invariant.1);

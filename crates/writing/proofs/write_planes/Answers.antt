@@ -17,7 +17,8 @@ pub write_plane-requires : goal.write_plane-requires
 write_plane-requires c =
     let count : c.args.q.count0 ≡ run_of c.args.g 0 = (counts c.args.r c.args.file.now c.args.g c.args.q c.requires.writable.ready).0 in
     let here : c.loop-i.i < run_of c.args.g 0 = omega (arith, count, c.loop-i-test.true) in
-    let still : Writable c.args.r c.loop-i.file c.args.g c.args.q c.args.input.now = writable_kept c.args.r c.args.file.now c.args.g c.args.q c.args.input.now c.requires.writable c.loop-i.file c.loop-i.invariant.0.kept in
+    let still : Writable c.args.r c.loop-i.file c.args.g c.args.q c.args.input.now =
+    writable_kept c.args.r c.args.file.now c.args.g c.args.q c.args.input.now c.requires.writable c.loop-i.file c.loop-i.invariant.0.kept in
     record {
       writable = still;
       i_bound = (here, c.requires.run_value.0, c.loop-i.invariant.1);
