@@ -19,9 +19,9 @@ returns-in-Taken c =
 
 pub returns-in-Refused : goal.returns-in-Refused
 returns-in-Refused c =
-        let call = float_read c.args.g c.args.out.now in
+    let call = float_read c.args.g c.args.out.now in
     let e = sym c.float_verdict-verdict.ensures ∙ c.in-Refused.is in
- record {
+    record {
       answer = sym (refused-answer c.args.r c.args.file.now _ call e);
       buffer = sym (refused-buffers c.args.r c.args.file.now _ call e);
     }

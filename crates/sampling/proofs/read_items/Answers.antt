@@ -4,7 +4,7 @@ use Rattle.sampling.proofs.read_items.Goals as goal
 
 pub returns-in-Stored : goal.returns-in-Stored
 returns-in-Stored c =
-                    items_read
+    items_read
     c.args.r
     c.args.file.now
     c.args.kind

@@ -11,34 +11,44 @@ use Rattle.sampling.proofs.read_taken.Goals as goal
 
 pub lattice_of-q-requires : goal.lattice_of-q-requires
 lattice_of-q-requires c =
-            taken_allowed c.args.r c.args.file.now c.args.g (length c.args.out.now) c.requires
+    taken_allowed c.args.r c.args.file.now c.args.g (length c.args.out.now) c.requires
 
 pub overflow_mul-n : goal.overflow_mul-n
 overflow_mul-n c =
-    let fits : c.lattice_of-q.result.count0 * (c.lattice_of-q.result.count1 * c.lattice_of-q.result.count2) ≤ length c.args.out.now = whole-fits c.args.r c.args.file.now c.args.g (length c.args.out.now) c.requires c.lattice_of-q.result c.lattice_of-q.ensures in
-    let plane : c.lattice_of-q.result.count1 * c.lattice_of-q.result.count2 ≤ c.lattice_of-q.result.count0 * (c.lattice_of-q.result.count1 * c.lattice_of-q.result.count2) = plane_fits c.args.r c.args.file.now c.args.g (length c.args.out.now) c.requires c.lattice_of-q.result c.lattice_of-q.ensures in
+    let fits : c.lattice_of-q.result.count0 * (c.lattice_of-q.result.count1 * c.lattice_of-q.result.count2) ≤ length c.args.out.now =
+    whole-fits c.args.r c.args.file.now c.args.g (length c.args.out.now) c.requires c.lattice_of-q.result c.lattice_of-q.ensures in
+    let plane : c.lattice_of-q.result.count1 * c.lattice_of-q.result.count2 ≤ c.lattice_of-q.result.count0 * (c.lattice_of-q.result.count1 * c.lattice_of-q.result.count2) =
+    plane_fits c.args.r c.args.file.now c.args.g (length c.args.out.now) c.requires c.lattice_of-q.result c.lattice_of-q.ensures in
     omega (arith, plane, fits, c)
 
 pub overflow_mul-n-2 : goal.overflow_mul-n-2
 overflow_mul-n-2 c =
-    let fits : c.lattice_of-q.result.count0 * (c.lattice_of-q.result.count1 * c.lattice_of-q.result.count2) ≤ length c.args.out.now = whole-fits c.args.r c.args.file.now c.args.g (length c.args.out.now) c.requires c.lattice_of-q.result c.lattice_of-q.ensures in
+    let fits : c.lattice_of-q.result.count0 * (c.lattice_of-q.result.count1 * c.lattice_of-q.result.count2) ≤ length c.args.out.now =
+    whole-fits c.args.r c.args.file.now c.args.g (length c.args.out.now) c.requires c.lattice_of-q.result c.lattice_of-q.ensures in
     omega (arith, fits, c)
 
 pub slice_bounds-read_bricks-end : goal.slice_bounds-read_bricks-end
 slice_bounds-read_bricks-end c =
-    let fits : c.lattice_of-q.result.count0 * (c.lattice_of-q.result.count1 * c.lattice_of-q.result.count2) ≤ length c.args.out.now = whole-fits c.args.r c.args.file.now c.args.g (length c.args.out.now) c.requires c.lattice_of-q.result c.lattice_of-q.ensures in
+    let fits : c.lattice_of-q.result.count0 * (c.lattice_of-q.result.count1 * c.lattice_of-q.result.count2) ≤ length c.args.out.now =
+    whole-fits c.args.r c.args.file.now c.args.g (length c.args.out.now) c.requires c.lattice_of-q.result c.lattice_of-q.ensures in
     fits
 
 pub slice_bounds-read_bricks-end-2 : goal.slice_bounds-read_bricks-end-2
 slice_bounds-read_bricks-end-2 c =
-    let fits : c.lattice_of-q.result.count0 * (c.lattice_of-q.result.count1 * c.lattice_of-q.result.count2) ≤ length c.args.out.now = whole-fits c.args.r c.args.file.now c.args.g (length c.args.out.now) c.requires c.lattice_of-q.result c.lattice_of-q.ensures in
-    let front : length (take (c.lattice_of-q.result.count0 * (c.lattice_of-q.result.count1 * c.lattice_of-q.result.count2)) c.args.out.now) ≡ c.lattice_of-q.result.count0 * (c.lattice_of-q.result.count1 * c.lattice_of-q.result.count2) = length-take-le _ _ fits in
+    let fits : c.lattice_of-q.result.count0 * (c.lattice_of-q.result.count1 * c.lattice_of-q.result.count2) ≤ length c.args.out.now =
+    whole-fits c.args.r c.args.file.now c.args.g (length c.args.out.now) c.requires c.lattice_of-q.result c.lattice_of-q.ensures in
+    let front : length (take (c.lattice_of-q.result.count0 * (c.lattice_of-q.result.count1 * c.lattice_of-q.result.count2)) c.args.out.now) ≡ c.lattice_of-q.result.count0 *
+    (c.lattice_of-q.result.count1 * c.lattice_of-q.result.count2) =
+    length-take-le _ _ fits in
     sym front
 
 pub read_bricks-requires : goal.read_bricks-requires
 read_bricks-requires c =
-    let fits : c.lattice_of-q.result.count0 * (c.lattice_of-q.result.count1 * c.lattice_of-q.result.count2) ≤ length c.args.out.now = whole-fits c.args.r c.args.file.now c.args.g (length c.args.out.now) c.requires c.lattice_of-q.result c.lattice_of-q.ensures in
-    let front : length (take (c.lattice_of-q.result.count0 * (c.lattice_of-q.result.count1 * c.lattice_of-q.result.count2)) c.args.out.now) ≡ c.lattice_of-q.result.count0 * (c.lattice_of-q.result.count1 * c.lattice_of-q.result.count2) = length-take-le _ _ fits in
+    let fits : c.lattice_of-q.result.count0 * (c.lattice_of-q.result.count1 * c.lattice_of-q.result.count2) ≤ length c.args.out.now =
+    whole-fits c.args.r c.args.file.now c.args.g (length c.args.out.now) c.requires c.lattice_of-q.result c.lattice_of-q.ensures in
+    let front : length (take (c.lattice_of-q.result.count0 * (c.lattice_of-q.result.count1 * c.lattice_of-q.result.count2)) c.args.out.now) ≡ c.lattice_of-q.result.count0 *
+    (c.lattice_of-q.result.count1 * c.lattice_of-q.result.count2) =
+    length-take-le _ _ fits in
     record {
       ready = (
         taken-ready c.args.r c.args.file.now c.args.g (length c.args.out.now) c.requires c.lattice_of-q.result c.lattice_of-q.ensures,
@@ -50,9 +60,12 @@ read_bricks-requires c =
 
 pub returns : goal.returns
 returns c =
-    let fits : c.lattice_of-q.result.count0 * (c.lattice_of-q.result.count1 * c.lattice_of-q.result.count2) ≤ length c.args.out.now = whole-fits c.args.r c.args.file.now c.args.g (length c.args.out.now) c.requires c.lattice_of-q.result c.lattice_of-q.ensures in
-    let front : length (take (c.lattice_of-q.result.count0 * (c.lattice_of-q.result.count1 * c.lattice_of-q.result.count2)) c.args.out.now) ≡ c.lattice_of-q.result.count0 * (c.lattice_of-q.result.count1 * c.lattice_of-q.result.count2) = length-take-le _ _ fits in
-    (
+    let fits : c.lattice_of-q.result.count0 * (c.lattice_of-q.result.count1 * c.lattice_of-q.result.count2) ≤ length c.args.out.now =
+    whole-fits c.args.r c.args.file.now c.args.g (length c.args.out.now) c.requires c.lattice_of-q.result c.lattice_of-q.ensures in
+    let front : length (take (c.lattice_of-q.result.count0 * (c.lattice_of-q.result.count1 * c.lattice_of-q.result.count2)) c.args.out.now) ≡ c.lattice_of-q.result.count0 *
+    (c.lattice_of-q.result.count1 * c.lattice_of-q.result.count2) =
+    length-take-le _ _ fits in (
       whole_is c.args.r c.args.file.now c.args.g (length c.args.out.now) c.requires c.lattice_of-q.result c.lattice_of-q.ensures,
-      front_over (float_rows c.args.r (rows_of c.args.r c.args.file.now) c.args.g) c.read_bricks.new.out c.args.out.now _ c.read_bricks.ensures (ap length (sym c.read_bricks.ensures) ∙ c.read_bricks.auto.out ∙ front),
+      front_over (float_rows c.args.r (rows_of c.args.r c.args.file.now) c.args.g) c.read_bricks.new.out c.args.out.now _ c.read_bricks.ensures
+          (ap length (sym c.read_bricks.ensures) ∙ c.read_bricks.auto.out ∙ front),
     )
