@@ -8,7 +8,7 @@ mod fields;
 mod lines;
 
 ghost use Rattle.std.specs.Prelude.{◌+◌, ◌≤◌, length};
-ghost use Rattle.std.specs.Io.{ReadsAtMost};
+ghost use Rattle.vectors.specs.Counts.{IsPrefixLen};
 
 use answers::{
     region_of, say_floats, say_kind, say_make, say_permuted, say_position, say_raw, say_string,
@@ -257,56 +257,58 @@ fn run_cube(rt: &impl Print, held: &mut [u8], length: usize, calls: &[u8]) -> io
     }
 }
 
-// Fills a buffer from a reader. Answers how many bytes it got: fewer than there is room for only where the input ends.
-fn read_full(from: &mut impl Read, out: &mut [u8]) -> io::Result<usize>
-    ensures { ReadsAtMost result out.new }
+// Fills a buffer from a reader. Answers how many bytes it got: fewer than there is room for only where the input ends, and a
+// read that fails counts as its end.
+fn read_full(from: &mut impl Read, out: &mut [u8]) -> usize
+    ensures { IsPrefixLen result out.new }
 {
     let mut done = 0;
     while done < out.len() {
-        let n = from.read(&mut out[done..])?;
-        if n == 0 {
-            break;
+        match from.read(&mut out[done..]) {
+            Ok(0) => break,
+            Ok(n) => done += n,
+            Err(_) => break,
         }
-        done += n;
     }
-    Ok(done)
+    done
 }
 
-// Reads a file, by its name. Answers how many bytes of it there are. For one that does not open there is a line on
-// standard error, and it counts as empty.
-fn read_named(rt: &(impl Files + Eprint), out: &mut [u8], name: &str) -> io::Result<usize>
-    ensures { ReadsAtMost result out.new }
+// Reads a file, by its name. Answers how many bytes of it there are. One that does not open, as none does whose name is not
+// text, counts as empty.
+fn read_named(rt: &(impl Files + Eprint), out: &mut [u8], bytes: &[u8]) -> usize
+    ensures { IsPrefixLen result out.new }
 {
+    let Ok(name) = str::from_utf8(bytes) else {
+        let _ = eprintln!(rt; "a name that is not text");
+        return 0;
+    };
     match fs::open(rt, name) {
         Ok(mut file) => read_full(&mut file, out),
         Err(error) => {
-            eprintln!(rt; "{name}: {error}")?;
-            Ok(0)
+            let _ = eprintln!(rt; "{name}: {error}");
+            0
         }
     }
 }
 
-// Argument i, in a buffer, or none where there are not so many. One that does not fit counts as empty; one that is not
-// text is an error, since a file's name is text.
-fn argument<'a>(rt: &impl Env, i: usize, buffer: &'a mut [u8]) -> io::Result<Option<&'a str>> {
-    let length = match rt.arg(i, buffer) {
-        Ok(n) => n,
-        Err(FillError::TooLong) => 0,
-        Err(FillError::NotPresent) => return Ok(None),
-    };
-    match str::from_utf8(&buffer[..length]) {
-        Ok(name) => Ok(Some(name)),
-        Err(_) => Err(io::Error::from(io::ErrorKind::InvalidData)),
+// Argument i, in a buffer, or none where there are not so many. One that does not fit counts as empty.
+fn argument<'a>(rt: &impl Env, i: usize, buffer: &'a mut [u8]) -> Option<&'a [u8]> {
+    match rt.arg(i, buffer) {
+        Ok(n) => Some(&buffer[..n]),
+        Err(FillError::TooLong) => Some(&buffer[..0]),
+        Err(FillError::NotPresent) => None,
     }
 }
 
 // The cube and the calls that two arguments name.
-fn run_pair(rt: &(impl Files + Print + Eprint), cube: &str, list: &str) -> io::Result<()> {
+fn run_pair(rt: &(impl Files + Print + Eprint), cube: &[u8], list: &[u8]) -> io::Result<()> {
     let mut held = [0u8; HELD];
     let mut calls = [0u8; HELD];
-    println!(rt; "cube {cube}")?;
-    let length = read_named(rt, &mut held, cube)?;
-    let end = read_named(rt, &mut calls, list)?;
+    print!(rt; "cube ")?;
+    rt.write_all(cube)?;
+    println!(rt; "")?;
+    let length = read_named(rt, &mut held, cube);
+    let end = read_named(rt, &mut calls, list);
     run_cube(rt, &mut held, length, &calls[..end])
 }
 
@@ -314,10 +316,10 @@ fn main(rt: HostRuntime) -> io::Result<()> {
     let mut cube_buffer = [0u8; LONGEST_NAME];
     let mut list_buffer = [0u8; LONGEST_NAME];
     for i in 0..usize::MAX / 2 {
-        let Some(cube) = argument(&rt, 2 * i + 1, &mut cube_buffer)? else {
+        let Some(cube) = argument(&rt, 2 * i + 1, &mut cube_buffer) else {
             break;
         };
-        let list = argument(&rt, 2 * i + 2, &mut list_buffer)?.unwrap_or("");
+        let list = argument(&rt, 2 * i + 2, &mut list_buffer).unwrap_or(b"");
         run_pair(&rt, cube, list)?;
     }
     Ok(())
