@@ -13,20 +13,23 @@ use Rattle.geometry.specs.Limits.{text_start, level_cap}
 use Rattle.geometry.specs.Geometry.{Small, shape_of}
 use Rattle.geometry.proofs.Levels.{ceil_pos, levels-le, alphas-le, sizes_small}
 use Rattle.record.specs.Header.{text_of}
-use Rattle.record.specs.Types.{other_type, coding_of, item_width, width_of}
+use Rattle.record.specs.Types.{coding_of, item_width, width_of}
 use Rattle.record.specs.Record.{count_of, levels_of, bricks_of, alphas_of, Sized}
 use Rattle.record.specs.declared.Description.{Description}
 use Rattle.record.specs.declared.Coding.{Coding}
-use Rattle.record.specs.declared.Coding.TheVariants.{Scaled, Float32, NoType}
+use Rattle.record.specs.declared.Coding.TheVariants.{Scaled, Float32}
+use Rattle.record.specs.declared.Refusal.{Refusal}
+use Rattle.record.specs.declared.Refusal.TheVariants as refusal
+use Rattle.std.specs.Prelude.{Result, Ok, Err}
 
 -- what holds of each type and of every other number holds of what a type number says
-pub coding_each : (P : ℕ → Coding → Type 0) → P 0 (Scaled 1 128) → P 2 (Scaled 2 32768) → P 6 (Float32 4) → ((k : ℕ) → P k (NoType other_type))
+pub coding_each : (P : ℕ → Result Coding Refusal → Type 0) → P 0 (Ok (Scaled 1 128)) → P 2 (Ok (Scaled 2 32768)) → P 6 (Ok (Float32 4)) → ((k : ℕ) → P k (Err refusal.Datatype))
     → (k : ℕ) → P k (coding_of k)
 unfolding coding_of
 coding_each P int8 int16 float32 other k = go (eqb k 0) (eqb k 2) (eqb k 6) refl refl refl
   where
     go : (a b c : Bool) → eqb k 0 ≡ a → eqb k 2 ≡ b → eqb k 6 ≡ c
-        → P k (cond a (Scaled 1 128) (cond b (Scaled 2 32768) (cond c (Float32 4) (NoType other_type))))
+        → P k (cond a (Ok (Scaled 1 128)) (cond b (Ok (Scaled 2 32768)) (cond c (Ok (Float32 4)) (Err refusal.Datatype))))
     go true b c p q r = rw (eqb-true k 0 p) int8
     go false true c p q r = rw (eqb-true k 2 q) int16
     go false false true p q r = rw (eqb-true k 6 r) float32
@@ -64,14 +67,14 @@ shape-alphas d = refl
 
 -- the integer types, and the numbers of their items
 module _ (k w h : ℕ) where
-  pub scaled_is : coding_of k ≡ Scaled w h → ((w ≡ 1) × (h ≡ 128)) ⊎ ((w ≡ 2) × (h ≡ 32768))
+  pub scaled_is : coding_of k ≡ Ok (Scaled w h) → ((w ≡ 1) × (h ≡ 128)) ⊎ ((w ≡ 2) × (h ≡ 32768))
   scaled_is =
-      coding_each (λ k x. x ≡ Scaled w h → ((w ≡ 1) × (h ≡ 128)) ⊎ ((w ≡ 2) × (h ≡ 32768))) (λ q. inl (cc, cc)) (λ q. inr (cc, cc))
+      coding_each (λ k x. x ≡ Ok (Scaled w h) → ((w ≡ 1) × (h ≡ 128)) ⊎ ((w ≡ 2) × (h ≡ 32768))) (λ q. inl (cc, cc)) (λ q. inr (cc, cc))
       (λ q. let z : ◌≡◌ {A = ℕ} 0 1 = cc in absurd (omega arith))
       (λ k q. let z : ◌≡◌ {A = ℕ} 0 1 = cc in absurd (omega arith))
       k
 
-  pub scaled_fits : (n : ℕ) → coding_of k ≡ Scaled w h → n < 256 ^ w → (h ≤ 32768) × (0 < h) × (n < 2 * h)
+  pub scaled_fits : (n : ℕ) → coding_of k ≡ Ok (Scaled w h) → n < 256 ^ w → (h ≤ 32768) × (0 < h) × (n < 2 * h)
   scaled_fits n e l =
       ⊎_elim
       (λ (q : (w ≡ 1) × (h ≡ 128)). let l' : n < 256 ^ 1 = rw q.0 at l in (omega arith, omega arith, omega arith))

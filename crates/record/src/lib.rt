@@ -4,7 +4,7 @@
 ghost use Rattle.std.specs.Prelude.{◌≡◌, ◌+◌, ◌≤◌, length};
 ghost use Rattle.geometry.specs.Limits.{text_start, longest_text, bytes_room, brick_room};
 ghost use Rattle.geometry.specs.Geometry.{shape_of};
-ghost use Rattle.record.specs.Answers.{refused, refused_at};
+ghost use Rattle.record.specs.Answers.{number, entry};
 ghost use Rattle.record.specs.Types.{coding_of, width_of};
 ghost use Rattle.record.specs.Header.{three_at, two_at, id_at, description_of};
 ghost use Rattle.record.specs.Record.{count_of, bricks_of, brick_bytes_of, floats_of, bound_of, grid_of, record_of, no_record, Sized};
@@ -13,36 +13,98 @@ use endian::{u8_at, u32_at, u64_at};
 use floats::float_of;
 use geometry::{Shape, brick_bytes, header_end, shape_of};
 
-// A refusal: the number of the table, and the lowest such entry for 12, 13 and 19, else 0.
-#[repr(C)]
-#[derive(Clone, Copy)]
-pub struct Refusal {
-    pub number: u32,
-    pub entry: u32,
+// Why a call is not carried out, as the sentence of the table for its number. It has the lowest such entry where one brick is to blame.
+#[derive(Clone, Copy, PartialEq, Eq)]
+pub enum Refusal {
+    // 1: the file is shorter than the two headers before its text.
+    Short,
+    // 2: the file does not start with VBS and a zero byte.
+    Magic,
+    // 3: the version is not 2 or 3.
+    Version,
+    // 4: a brick side is not 4, 8, 16, 32 or 64.
+    Side,
+    // 5: the type is not 0, 2 or 6.
+    Datatype,
+    // 6: a size is below 1 or above 1,048,576.
+    Size,
+    // 7: orig or inc is not finite, or the coding range is not finite with min below max.
+    Floats,
+    // 8: all levels together have over 16,384 bricks.
+    Bricks,
+    // 9: the text is not 5 to 65,536 bytes long.
+    TextLength,
+    // 10: the file ends before its headers do.
+    Headers,
+    // 11: the text is not exactly five strings, each ended by a zero byte.
+    Text,
+    // 12: the brick of this entry lies outside the file or in its headers.
+    Range(u32),
+    // 13: the stored brick of this entry overlaps one of a lower entry.
+    Overlap(u32),
+    // 14: the record is none that opening gives, or is that of a file of another length.
+    Record,
+    // 15: there is no such level.
+    Level,
+    // 16: a count is 0, the region lies outside the extent, or there is no such dimension, index or entry.
+    Index,
+    // 17: the filler is not the brick's value throughout.
+    Filler,
+    // 18: a lent buffer is too short.
+    Room,
+    // 19: a write touches the brick of this entry, which is not stored.
+    NotStored(u32),
+    // 20: the version 1 brick order has no such sides or item width.
+    Subtiles,
 }
 
-// Whether a call is carried out.
-#[derive(Clone, Copy)]
-pub enum Verdict {
-    Taken,
-    Refused(Refusal),
+impl Refusal {
+    // The number of the table.
+    pub fn number(self) -> u32
+        ensures { result ≡ number self }
+    {
+        match self {
+            Refusal::Short => 1,
+            Refusal::Magic => 2,
+            Refusal::Version => 3,
+            Refusal::Side => 4,
+            Refusal::Datatype => 5,
+            Refusal::Size => 6,
+            Refusal::Floats => 7,
+            Refusal::Bricks => 8,
+            Refusal::TextLength => 9,
+            Refusal::Headers => 10,
+            Refusal::Text => 11,
+            Refusal::Range(_) => 12,
+            Refusal::Overlap(_) => 13,
+            Refusal::Record => 14,
+            Refusal::Level => 15,
+            Refusal::Index => 16,
+            Refusal::Filler => 17,
+            Refusal::Room => 18,
+            Refusal::NotStored(_) => 19,
+            Refusal::Subtiles => 20,
+        }
+    }
+
+    // The second number: the entry to blame, or 0 where no single one is.
+    pub fn entry(self) -> u32
+        ensures { result ≡ entry self }
+    {
+        match self {
+            Refusal::Range(entry) | Refusal::Overlap(entry) | Refusal::NotStored(entry) => entry,
+            _ => 0,
+        }
+    }
 }
 
-// What a call answers that moves bytes or floats, or makes a cube: how many it moved or made, or its refusal.
-#[derive(Clone, Copy)]
-pub enum Done {
-    Taken(u64),
-    Refused(Refusal),
-}
-
-// What a type number says: the item's width in bytes and its decode rule, or a refusal.
+// What a type number says: the item's width in bytes and its decode rule.
 #[derive(Clone, Copy)]
 pub enum Coding {
     // Signed integers from -half to half - 1, scaled to the coding range.
     Scaled { width: u32, half: u32 },
     // 32-bit floats, widened.
     Float32 { width: u32 },
-    NoType(Refusal),
 }
 
 // What a cube is made from: the header's fields but version and text length, floats and factors as bits.
@@ -90,47 +152,33 @@ pub struct Record {
     pub length: u64,
 }
 
-pub fn refuse(number: u32) -> Verdict
-    ensures { result ≡ refused number }
-{
-    Verdict::Refused(Refusal { number, entry: 0 })
-}
-
-pub fn refuse_at(number: u32, entry: u32) -> Verdict
-    ensures { result ≡ refused_at number entry }
-{
-    Verdict::Refused(Refusal { number, entry })
-}
-
-pub fn coding_of(datatype: u8) -> Coding
+#[tactic(auto, unfolding(crate::specs::Types::coding_of))]
+pub fn coding_of(datatype: u8) -> Result<Coding, Refusal>
     ensures { result ≡ coding_of datatype }
 {
     match datatype {
-        0 => Coding::Scaled {
+        0 => Ok(Coding::Scaled {
             width: 1,
             half: 128,
-        },
-        2 => Coding::Scaled {
+        }),
+        2 => Ok(Coding::Scaled {
             width: 2,
             half: 32768,
-        },
-        6 => Coding::Float32 { width: 4 },
-        1 | 3..=5 | 7..=255 => Coding::NoType(Refusal {
-            number: 5,
-            entry: 0,
         }),
+        6 => Ok(Coding::Float32 { width: 4 }),
+        1 | 3..=5 | 7..=255 => Err(Refusal::Datatype),
     }
 }
 
 // The bytes of an item, 0 where there is no such type.
+#[tactic(auto, unfolding(crate::specs::Types::width_of))]
 pub fn width_of(datatype: u8) -> u32
     ensures { result ≡ width_of datatype }
 {
-    let coding = coding_of(datatype);
-    match coding {
-        Coding::Scaled { width, half: _ } => width,
-        Coding::Float32 { width } => width,
-        Coding::NoType(_) => 0,
+    match coding_of(datatype) {
+        Ok(Coding::Scaled { width, half: _ }) => width,
+        Ok(Coding::Float32 { width }) => width,
+        Err(_) => 0,
     }
 }
 
@@ -178,35 +226,21 @@ pub fn description_at(file: &[u8]) -> Description
     requires { text_start ≤ length file.now }
     ensures { result ≡ description_of file.now }
 {
-    let side = three_at(file, 9);
-    let datatype = u8_at(file, 21);
-    let range = two_at(file, 22);
-    let dataid = id_at(file, 30);
-    let verid = id_at(file, 46);
-    let previd = id_at(file, 62);
-    let srctype = u8_at(file, 78);
-    let orig = three_at(file, 79);
-    let inc = three_at(file, 91);
-    let size = three_at(file, 103);
-    let hdim = u8_at(file, 324);
-    let hfactor = u64_at(file, 325);
-    let vdim = u8_at(file, 333);
-    let vfactor = u64_at(file, 334);
     Description {
-        side,
-        datatype,
-        range,
-        dataid,
-        verid,
-        previd,
-        srctype,
-        orig,
-        inc,
-        size,
-        hdim,
-        hfactor,
-        vdim,
-        vfactor,
+        side: three_at(file, 9),
+        datatype: u8_at(file, 21),
+        range: two_at(file, 22),
+        dataid: id_at(file, 30),
+        verid: id_at(file, 46),
+        previd: id_at(file, 62),
+        srctype: u8_at(file, 78),
+        orig: three_at(file, 79),
+        inc: three_at(file, 91),
+        size: three_at(file, 103),
+        hdim: u8_at(file, 324),
+        hfactor: u64_at(file, 325),
+        vdim: u8_at(file, 333),
+        vfactor: u64_at(file, 334),
     }
 }
 
@@ -226,14 +260,11 @@ pub fn bound_of(datatype: u8, bits: u32) -> u32
 pub fn grid_of(d: Description) -> Grid
     ensures { result ≡ grid_of d }
 {
-    let orig = d.orig;
-    let inc = d.inc;
-    let range = d.range;
     Grid {
-        orig: floats_of(orig),
-        inc: floats_of(inc),
-        min: float_of(bound_of(d.datatype, range[0])),
-        max: float_of(bound_of(d.datatype, range[1])),
+        orig: floats_of(d.orig),
+        inc: floats_of(d.inc),
+        min: float_of(bound_of(d.datatype, d.range[0])),
+        max: float_of(bound_of(d.datatype, d.range[1])),
     }
 }
 
@@ -242,20 +273,17 @@ pub fn shape_in(d: Description) -> Shape
     requires { Sized d }
     ensures { result ≡ shape_of (count_of d 0) (count_of d 1) (count_of d 2) }
 {
-    let size = d.size;
-    let side = d.side;
-    shape_of(size, side)
+    shape_of(d.size, d.side)
 }
 
 pub fn brick_bytes_in(d: Description) -> u64
     requires { Sized d }
     ensures { (result ≡ brick_bytes_of d) × (result ≤ bytes_room) }
 {
-    let side = d.side;
     brick_bytes(
-        side[0] as u64,
-        side[1] as u64,
-        side[2] as u64,
+        d.side[0] as u64,
+        d.side[1] as u64,
+        d.side[2] as u64,
         width_of(d.datatype) as u64,
     )
 }
