@@ -12,8 +12,9 @@ use Rattle.record.specs.Record.{brick_bytes_of}
 use Rattle.record.specs.declared.Coding.{Coding}
 use Rattle.record.specs.declared.Record.{Record}
 use Rattle.record.specs.declared.Refusal.{Refusal}
-use Rattle.record.specs.declared.Verdict.{Verdict}
-use Rattle.record.specs.declared.Verdict.TheVariants.{Taken, Refused}
+use Rattle.record.specs.Answers.{Verdict}
+use Rattle.record.specs.Answers.{Taken}
+use Rattle.record.specs.Answers.{refused}
 use Rattle.checks.specs.Fits.{breaks14_with}
 use Rattle.checks.proofs.Records.{Fit, fits-is, with_fit}
 use Rattle.table.specs.declared.Kind.TheVariants.{Stored}
@@ -25,6 +26,7 @@ use Rattle.bricks.specs.Bricks.{brick_of, kind_verdict, kind_answer}
 use Rattle.bricks.specs.declared.Brick.{Brick}
 use Rattle.bricks.specs.declared.Found.TheVariants as found
 use Rattle.bricks.specs.Filler.{Narrow}
+use Rattle.record.specs.declared.Refusal.TheVariants as refusal
 
 -- ---- a constant's number
 
@@ -43,15 +45,15 @@ entry_in_lem r t f e is-t fit l h =
 
 -- ---- the verdict by its cases
 module _ (r : Record) (f : List ℕ) (e : ℕ) where
-  pub kind_14 : breaks14_with r (length f) ≡ true → kind_verdict r f e ≡ refused 14
+  pub kind_14 : breaks14_with r (length f) ≡ true → kind_verdict r f e ≡ refused refusal.Record
   unfolding kind_verdict
   kind_14 p = simp p
 
-  pub kind_16 : breaks14_with r (length f) ≡ false → r.bricks ≤ e → kind_verdict r f e ≡ refused 16
+  pub kind_16 : breaks14_with r (length f) ≡ false → r.bricks ≤ e → kind_verdict r f e ≡ refused refusal.Index
   unfolding kind_verdict
   kind_16 p h = simp (p, le-leb r.bricks e h)
 
-  pub kind_12 : breaks14_with r (length f) ≡ false → e < r.bricks → breaks12 r f e ≡ true → kind_verdict r f e ≡ refused_at 12 e
+  pub kind_12 : breaks14_with r (length f) ≡ false → e < r.bricks → breaks12 r f e ≡ true → kind_verdict r f e ≡ refused (refusal.Range e)
   unfolding kind_verdict
   kind_12 p h q = simp (p, lt-leb r.bricks e h, q)
 
@@ -60,7 +62,7 @@ module _ (r : Record) (f : List ℕ) (e : ℕ) where
   kind_taken p h q = simp (p, lt-leb r.bricks e h, q)
 
   -- the answer, refused and known
-  pub kind_refused : (x : Refusal) → kind_verdict r f e ≡ Refused x → found.Refused x ≡ kind_answer r f e
+  pub kind_refused : (x : Refusal) → kind_verdict r f e ≡ refused x → found.Refused x ≡ kind_answer r f e
   unfolding kind_answer
   kind_refused x v = simp v
 
@@ -76,7 +78,7 @@ pub record Seen (r : Record) (f : List ℕ) (e : ℕ) : Type 0 where
   pub in_range : breaks12 r f e ≡ false
 
 -- one check peeled off: it did not apply, and the later ones took the call
-passed_any : (b : Bool) (x : Refusal) (later : Verdict) → cond b (Refused x) later ≡ Taken → (b ≡ false) × (later ≡ Taken)
+passed_any : (b : Bool) (x : Refusal) (later : Verdict) → cond b (refused x) later ≡ Taken → (b ≡ false) × (later ≡ Taken)
 passed_any true x later e = let z : ◌≡◌ {A = ℕ} 0 1 = cc in absurd (omega arith)
 passed_any false x later e = (refl, e)
 

@@ -14,7 +14,8 @@ use Rattle.record.specs.Record.{side_of, brick_bytes_of}
 use Rattle.record.specs.declared.Description.{Description}
 use Rattle.record.specs.declared.Record.{Record}
 use Rattle.record.specs.declared.Refusal.{Refusal}
-use Rattle.record.specs.declared.Verdict.TheVariants.{Taken, Refused}
+use Rattle.record.specs.Answers.{Taken}
+use Rattle.record.specs.Answers.{refused}
 use Rattle.checks.specs.Checks.{all3, side_ok, breaks4}
 use Rattle.checks.proofs.Described.{passed, not-false, all3-each, side_multiple, Described}
 use Rattle.table.specs.declared.Kind.{Kind}
@@ -25,6 +26,7 @@ use Rattle.cube.specs.declared.MissingBrick.{MissingBrick}
 use Rattle.cube.specs.Places.{item_bytes, missing_brick}
 use Rattle.bricks.specs.Bricks.{fill_of, filled_with, room_verdict, value_verdict, filler_verdict, kind_verdict, shown_verdict, view_verdict}
 use Rattle.bricks.specs.Bricks.{View, of_file, of_filler, shown_of, view_of, Shows}
+use Rattle.record.specs.declared.Refusal.TheVariants as refusal
 
 four_times : (a b c w m : ℕ) → a ≡ 4 * m → a * b * c * w ≡ 4 * (m * b * c * w)
 four_times a b c w m e = rw e (simp mul_assoc)
@@ -40,11 +42,11 @@ brick_words d t p =
 
 -- ---- the filler of a brick that is not stored
 module _ (r : Record) (k : Kind) (filler : List ℕ) where
-  pub filler_18 : length filler < brick_bytes_of r.description → filler_verdict r k filler ≡ refused 18
+  pub filler_18 : length filler < brick_bytes_of r.description → filler_verdict r k filler ≡ refused refusal.Room
   unfolding filler_verdict room_verdict
   filler_18 h = simp (lt-ltb _ _ h)
 
-  pub filler_17 : brick_bytes_of r.description ≤ length filler → filled_with (fill_of r k) filler (item_bytes r) (brick_bytes_of r.description) ≡ false → filler_verdict r k filler ≡ refused 17
+  pub filler_17 : brick_bytes_of r.description ≤ length filler → filled_with (fill_of r k) filler (item_bytes r) (brick_bytes_of r.description) ≡ false → filler_verdict r k filler ≡ refused refusal.Filler
   unfolding filler_verdict room_verdict value_verdict
   filler_17 h e = simp (le-ltb _ _ h, e)
 
@@ -67,7 +69,7 @@ unfolding view_verdict
 view_parts r f filler e t = both_taken (kind_verdict r f e) _ t
 
 module _ (r : Record) (f filler : List ℕ) (e : ℕ) where
-  pub view_refused : (x : Refusal) → kind_verdict r f e ≡ Refused x → view_verdict r f filler e ≡ Refused x
+  pub view_refused : (x : Refusal) → kind_verdict r f e ≡ refused x → view_verdict r f filler e ≡ refused x
   unfolding view_verdict
   view_refused x v = simp v
 
@@ -83,7 +85,7 @@ module _ (r : Record) (f filler : List ℕ) (e : ℕ) where
   constant_long v t k = filler_long r (Constant v) filler (rw k at (view_parts r f filler e t).1)
 
   -- what is shown, refused and taken, by the brick's kind
-  pub view_none : (x : Refusal) → view_verdict r f filler e ≡ Refused x → view_of r f filler e ≡ of_file 0 0
+  pub view_none : (x : Refusal) → view_verdict r f filler e ≡ refused x → view_of r f filler e ≡ of_file 0 0
   unfolding view_of
   view_none x v = simp v
 

@@ -7,8 +7,9 @@ use Rattle.record.specs.Answers.{refused, refused_at, and_then}
 use Rattle.record.specs.Types.{value_of}
 use Rattle.record.specs.Record.{brick_bytes_of}
 use Rattle.record.specs.declared.Record.{Record}
-use Rattle.record.specs.declared.Verdict.{Verdict}
-use Rattle.record.specs.declared.Verdict.TheVariants.{Taken, Refused}
+use Rattle.record.specs.Answers.{Verdict}
+use Rattle.record.specs.Answers.{Taken}
+use Rattle.record.specs.Answers.{refused}
 use Rattle.checks.specs.Fits.{breaks14_with}
 use Rattle.table.specs.declared.Kind.{Kind}
 use Rattle.table.specs.declared.Kind.TheVariants.{Missing, Constant, Stored}
@@ -18,6 +19,9 @@ use Rattle.bricks.specs.declared.Brick.{Brick}
 use Rattle.bricks.specs.declared.Brick.TheVariants as brick
 use Rattle.bricks.specs.declared.Found.{Found}
 use Rattle.bricks.specs.declared.Found.TheVariants as found
+use Rattle.record.specs.declared.Refusal.TheVariants as refusal
+use Rattle.std.specs.Prelude.{Ok}
+use Rattle.std.specs.Prelude.{Err}
 
 -- a brick's kind as a caller sees it: missing, constant with its storage value as a float, unscaled, or stored with its offset
 abbrev pub brick_of : ℕ → Kind → Brick
@@ -28,19 +32,19 @@ brick_of datatype (Stored o) = brick.Stored o
 -- checks 14, 16 and 12
 unfoldable pub kind_verdict : Record → List ℕ → ℕ → Verdict
 kind_verdict r f e =
-    cond (breaks14_with r (length f)) (refused 14)
-    (cond (leb r.bricks e) (refused 16)
-    (cond (breaks12 r f e) (refused_at 12 e)
+    cond (breaks14_with r (length f)) (refused refusal.Record)
+    (cond (leb r.bricks e) (refused refusal.Index)
+    (cond (breaks12 r f e) (refused (refusal.Range e))
     Taken))
 
 abbrev pub found_of : Verdict → Brick → Found
-found_of Taken b = found.Known b
-found_of (Refused x) b = found.Refused x
+found_of (Ok u) b = found.Known b
+found_of (Err x) b = found.Refused x
 
 -- an answer's verdict
 abbrev pub found_verdict : Found → Verdict
 found_verdict (found.Known b) = Taken
-found_verdict (found.Refused x) = Refused x
+found_verdict (found.Refused x) = refused x
 
 -- what brick kind answers
 unfoldable pub kind_answer : Record → List ℕ → ℕ → Found
@@ -58,10 +62,10 @@ filled_with value filler w n = eqb (first (λ i. not (eqb (get_or filler i 0) (g
 
 -- check 18, and check 17, of a brick that is not stored
 unfoldable pub room_verdict : Record → List ℕ → Verdict
-room_verdict r filler = cond (ltb (length filler) (brick_bytes_of r.description)) (refused 18) Taken
+room_verdict r filler = cond (ltb (length filler) (brick_bytes_of r.description)) (refused refusal.Room) Taken
 
 unfoldable pub value_verdict : Record → Kind → List ℕ → Verdict
-value_verdict r k filler = cond (not (filled_with (fill_of r k) filler (item_bytes r) (brick_bytes_of r.description))) (refused 17) Taken
+value_verdict r k filler = cond (not (filled_with (fill_of r k) filler (item_bytes r) (brick_bytes_of r.description))) (refused refusal.Filler) Taken
 
 -- checks 18 and 17
 unfoldable pub filler_verdict : Record → Kind → List ℕ → Verdict
@@ -89,8 +93,8 @@ shown_of (Stored o) n = of_file o n
 
 -- an empty part of the file where the view is refused
 abbrev pub shown_if : Verdict → View → View
-shown_if Taken v = v
-shown_if (Refused x) v = of_file 0 0
+shown_if (Ok u) v = v
+shown_if (Err x) v = of_file 0 0
 
 -- what brick view shows
 unfoldable pub view_of : Record → List ℕ → List ℕ → ℕ → View

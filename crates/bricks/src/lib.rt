@@ -3,7 +3,7 @@
 
 ghost use Rattle.std.specs.Prelude.{◌≡◌, ◌*◌, ◌^◌, ◌<◌, ◌≤◌, length};
 ghost use Rattle.record.specs.Types.{width_of, value_of};
-ghost use Rattle.record.specs.declared.Verdict.TheVariants.{Taken};
+ghost use Rattle.record.specs.Answers.{Taken};
 ghost use Rattle.table.specs.Entries.{Width, Derived};
 ghost use Rattle.table.specs.declared.Kind.TheVariants.{Constant};
 ghost use Rattle.cube.specs.Places.{item_bytes};

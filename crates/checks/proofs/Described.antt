@@ -19,24 +19,29 @@ use Rattle.record.specs.Answers.{refused, is_taken, and_then}
 use Rattle.record.specs.Types.{coding_of, item_width, no_type, width_of}
 use Rattle.record.specs.Record.{bricks_of, brick_bytes_of, Sized}
 use Rattle.record.specs.declared.Description.{Description}
-use Rattle.record.specs.declared.Verdict.{Verdict}
-use Rattle.record.specs.declared.Verdict.TheVariants.{Taken, Refused}
+use Rattle.record.specs.Answers.{Verdict}
+use Rattle.record.specs.Answers.{Taken}
+use Rattle.record.specs.Answers.{refused}
 use Rattle.record.proofs.Laws.{coding_each}
 use Rattle.checks.specs.Checks.{all3, side_ok, size_ok, brick_limit, breaks4, verdict5, breaks5, breaks6, breaks7, breaks8, breaks9, fields_fit, described}
+use Rattle.record.specs.declared.Refusal.{Refusal}
+use Rattle.record.specs.declared.Refusal.TheVariants as refusal
+use Rattle.std.specs.Prelude.{Ok}
+use Rattle.std.specs.Prelude.{Err}
 
 -- one check peeled off: it did not apply, and the later ones took the call
-pub passed : (b : Bool) (n : ℕ) (later : Verdict) → cond b (refused n) later ≡ Taken → (b ≡ false) × (later ≡ Taken)
-passed true n later e = let z : ◌≡◌ {A = ℕ} 0 1 = cc in absurd (omega arith)
-passed false n later e = (refl, e)
+pub passed : (b : Bool) (x : Refusal) (later : Verdict) → cond b (refused x) later ≡ Taken → (b ≡ false) × (later ≡ Taken)
+passed true x later e = let z : ◌≡◌ {A = ℕ} 0 1 = cc in absurd (omega arith)
+passed false x later e = (refl, e)
 
 -- the same of a check that comes as a verdict
 pub passed_verdict : (v later : Verdict) → and_then v later ≡ Taken → (is_taken v ≡ true) × (later ≡ Taken)
-passed_verdict Taken later e = (refl, e)
-passed_verdict (Refused x) later e = let z : ◌≡◌ {A = ℕ} 0 1 = cc in absurd (omega arith)
+passed_verdict (Ok u) later e = (refl, e)
+passed_verdict (Err x) later e = let z : ◌≡◌ {A = ℕ} 0 1 = cc in absurd (omega arith)
 
 pub taken_is : (v : Verdict) → is_taken v ≡ true → v ≡ Taken
-taken_is Taken e = refl
-taken_is (Refused x) e = absurd (false≢true e)
+taken_is (Ok u) e = refl
+taken_is (Err x) e = absurd (false≢true e)
 
 pub not-false : (b : Bool) → not b ≡ false → b ≡ true
 not-false true e = refl
@@ -156,25 +161,25 @@ unfolding described fields_fit
 fits_as d t v g n = go v (breaks4 d) (verdict5 d) (breaks6 d) (breaks7 d) (breaks8 d) (breaks9 t) g n
   where
     go : (v a : Bool) (b : Verdict) (c d e f g n : Bool)
-        → not v && is_taken (cond a (refused 4) (and_then b (cond c (refused 6) (cond d (refused 7) (cond e (refused 8) (cond f (refused 9) Taken)))))) && g && n
+        → not v && is_taken (cond a (refused refusal.Side) (and_then b (cond c (refused refusal.Size) (cond d (refused refusal.Floats) (cond e (refused refusal.Bricks) (cond f (refused refusal.TextLength) Taken)))))) && g && n
         ≡ cond (v || f) false (cond (is_taken b && not (a || c || d)) (g && (not e && n)) false)
     go true a b c d e f g n = refl
-    go false true Taken c d e true g n = refl
-    go false true Taken c d e false g n = refl
-    go false true (Refused x) c d e true g n = refl
-    go false true (Refused x) c d e false g n = refl
-    go false false (Refused x) c d e true g n = refl
-    go false false (Refused x) c d e false g n = refl
-    go false false Taken true d e true g n = refl
-    go false false Taken true d e false g n = refl
-    go false false Taken false true e true g n = refl
-    go false false Taken false true e false g n = refl
-    go false false Taken false false true true g n = refl
-    go false false Taken false false true false true n = refl
-    go false false Taken false false true false false n = refl
-    go false false Taken false false false true g n = refl
-    go false false Taken false false false false true n = refl
-    go false false Taken false false false false false n = refl
+    go false true (Ok u) c d e true g n = refl
+    go false true (Ok u) c d e false g n = refl
+    go false true (Err x) c d e true g n = refl
+    go false true (Err x) c d e false g n = refl
+    go false false (Err x) c d e true g n = refl
+    go false false (Err x) c d e false g n = refl
+    go false false (Ok u) true d e true g n = refl
+    go false false (Ok u) true d e false g n = refl
+    go false false (Ok u) false true e true g n = refl
+    go false false (Ok u) false true e false g n = refl
+    go false false (Ok u) false false true true g n = refl
+    go false false (Ok u) false false true false true n = refl
+    go false false (Ok u) false false true false false n = refl
+    go false false (Ok u) false false false true g n = refl
+    go false false (Ok u) false false false false true n = refl
+    go false false (Ok u) false false false false false n = refl
 
 module _ (d : Description) (t : ℕ) (p : Described d t) where
   pub described_sized : Sized d

@@ -8,8 +8,9 @@ use Rattle.record.specs.Answers.{refused, is_taken, and_then}
 use Rattle.record.specs.Types.{coding_of, type_verdict, no_type}
 use Rattle.record.specs.Record.{bricks_of}
 use Rattle.record.specs.declared.Description.{Description}
-use Rattle.record.specs.declared.Verdict.{Verdict}
-use Rattle.record.specs.declared.Verdict.TheVariants.{Taken}
+use Rattle.record.specs.Answers.{Verdict}
+use Rattle.record.specs.Answers.{Taken}
+use Rattle.record.specs.declared.Refusal.TheVariants as refusal
 
 -- a test of all three directions
 abbrev pub all3 : (ℕ → Bool) → List ℕ → Bool
@@ -67,10 +68,10 @@ fields_fit d = is_taken (verdict5 d) && not (breaks4 d || breaks6 d || breaks7 d
 -- checks 4 to 9 in their order, of a description and a text of t bytes
 unfoldable pub described : Description → ℕ → Verdict
 described d t =
-    cond (breaks4 d) (refused 4)
+    cond (breaks4 d) (refused refusal.Side)
     (and_then (verdict5 d)
-    (cond (breaks6 d) (refused 6)
-    (cond (breaks7 d) (refused 7)
-    (cond (breaks8 d) (refused 8)
-    (cond (breaks9 t) (refused 9)
+    (cond (breaks6 d) (refused refusal.Size)
+    (cond (breaks7 d) (refused refusal.Floats)
+    (cond (breaks8 d) (refused refusal.Bricks)
+    (cond (breaks9 t) (refused refusal.TextLength)
     Taken)))))

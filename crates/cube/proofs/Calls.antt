@@ -4,31 +4,33 @@ use mathlib.Core.Path.{◌≡◌, refl, ap}
 use mathlib.Core.List.{List, [], ◌∷◌}
 use lib.Ieee.{Float}
 use Rattle.record.specs.Answers.{done_of}
-use Rattle.record.specs.declared.Done.TheVariants as done
 use Rattle.record.specs.declared.Record.{Record}
 use Rattle.record.specs.declared.Refusal.{Refusal}
-use Rattle.record.specs.declared.Verdict.{Verdict}
-use Rattle.record.specs.declared.Verdict.TheVariants.{Taken, Refused}
+use Rattle.record.specs.Answers.{Verdict}
+use Rattle.record.specs.Answers.{Taken}
+use Rattle.record.specs.Answers.{refused}
 use Rattle.cube.specs.declared.Region.{Region}
 use Rattle.cube.specs.Places.{rows_of}
 use Rattle.cube.specs.Regions.{raw_rows, float_rows, written, after, over}
 use Rattle.cube.specs.Calls.{Call, raw_read, float_read, write, raw, floats, lent, verdict_on, moves, answer_of, cube_after, buffers_after}
+use Rattle.std.specs.Prelude.{Ok}
+use Rattle.std.specs.Prelude.{Err}
 
 module _ (r : Record) (f : List ℕ) where
   -- ---- refused
 
   module _ (x : Refusal) where
-    pub refused-answer : (c : Call) → verdict_on r f c ≡ Refused x → answer_of r f c ≡ done.Refused x
+    pub refused-answer : (c : Call) → verdict_on r f c ≡ refused x → answer_of r f c ≡ Err x
     unfolding answer_of
     refused-answer c e = ap (λ (v : Verdict). done_of v (moves r c)) e
 
-    pub refused-cube : (c : Call) → verdict_on r f c ≡ Refused x → cube_after r f c ≡ f
+    pub refused-cube : (c : Call) → verdict_on r f c ≡ refused x → cube_after r f c ≡ f
     unfolding cube_after
     refused-cube (raw_read g b) e = refl
     refused-cube (float_read g b) e = refl
     refused-cube (write g d) e = ap (λ (v : Verdict). after v (written r g d f) f) e
 
-    pub refused-buffers : (c : Call) → verdict_on r f c ≡ Refused x → buffers_after r f c ≡ lent c
+    pub refused-buffers : (c : Call) → verdict_on r f c ≡ refused x → buffers_after r f c ≡ lent c
     unfolding buffers_after
     refused-buffers (raw_read g b) e = ap (λ (v : Verdict). raw (after v (over (raw_rows r (rows_of r f) g) b) b) ∷ []) e
     refused-buffers (float_read g b) e = ap (λ (v : Verdict). floats (after v (over (float_rows r (rows_of r f) g) b) b) ∷ []) e
@@ -36,7 +38,7 @@ module _ (r : Record) (f : List ℕ) where
 
   -- ---- taken
 
-  pub taken-answer : (c : Call) → verdict_on r f c ≡ Taken → answer_of r f c ≡ done.Taken (moves r c)
+  pub taken-answer : (c : Call) → verdict_on r f c ≡ Taken → answer_of r f c ≡ Ok (moves r c)
   unfolding answer_of
   taken-answer c e = ap (λ (v : Verdict). done_of v (moves r c)) e
 

@@ -15,8 +15,8 @@ use Rattle.endian.proofs.Search.{any_at, any-is}
 use Rattle.record.specs.Answers.{refused}
 use Rattle.record.specs.Record.{extent_along, levels_of}
 use Rattle.record.specs.declared.Record.{Record}
-use Rattle.record.specs.declared.Verdict.{Verdict}
-use Rattle.record.specs.declared.Verdict.TheVariants.{Taken}
+use Rattle.record.specs.Answers.{Verdict}
+use Rattle.record.specs.Answers.{Taken}
 use Rattle.checks.specs.Fits.{breaks14_with}
 use Rattle.checks.proofs.Described.{passed, both, not-false}
 use Rattle.checks.proofs.Records.{Fit, with_fit}
@@ -30,6 +30,7 @@ use Rattle.cube.specs.Places.{Place, item_bytes, kind_in, brick_of, Inside, Exte
 use Rattle.cube.specs.Regions.{start_of, run_of, place, size_of, place_at, run_inside, in_extent, touches, unless_touched, is_stored, not_stored, region_verdict, raw_verdict, float_verdict, write_verdict}
 use Rattle.cube.proofs.Valid.{headers, entries, brick_length, Lent}
 use Rattle.cube.proofs.Places.{brick-lt, inside}
+use Rattle.record.specs.declared.Refusal.TheVariants as refusal
 
 -- ---- the places of a region
 
@@ -49,22 +50,22 @@ place_at_lem g i j k hj hk =
 -- ---- by which check a region is refused: the first in the order
 
 module _ (r : Record) (f : List ℕ) (g : Region) (room need : ℕ) (later : Verdict) where
-  pub stop14 : breaks14_with r (length f) ≡ true → refused 14 ≡ region_verdict r f g room need later
+  pub stop14 : breaks14_with r (length f) ≡ true → refused refusal.Record ≡ region_verdict r f g room need later
   unfolding region_verdict
   stop14 e = simp e
 
   module _ (fits : breaks14_with r (length f) ≡ false) where
-    pub stop15 : r.levels ≤ g.level → refused 15 ≡ region_verdict r f g room need later
+    pub stop15 : r.levels ≤ g.level → refused refusal.Level ≡ region_verdict r f g room need later
     unfolding region_verdict
     stop15 h = simp (fits, le-leb _ _ h)
 
     module _ (level : g.level < r.levels) where
-      pub stop16 : in_extent r g ≡ false → refused 16 ≡ region_verdict r f g room need later
+      pub stop16 : in_extent r g ≡ false → refused refusal.Index ≡ region_verdict r f g room need later
       unfolding region_verdict
       stop16 e = simp (fits, lt-leb _ _ level, e)
 
       module _ (inside : in_extent r g ≡ true) where
-        pub stop18 : room < need → refused 18 ≡ region_verdict r f g room need later
+        pub stop18 : room < need → refused refusal.Room ≡ region_verdict r f g room need later
         unfolding region_verdict
         stop18 h = simp (fits, lt-leb _ _ level, inside, lt-ltb _ _ h)
 

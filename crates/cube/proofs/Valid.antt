@@ -10,7 +10,7 @@ use lib.ListN.{length}
 use Rattle.endian.specs.Bytes.{Bytes}
 use Rattle.record.specs.Record.{bricks_of, brick_bytes_of, header_of, record_of}
 use Rattle.record.specs.declared.Record.{Record}
-use Rattle.record.specs.declared.Verdict.TheVariants.{Taken}
+use Rattle.record.specs.Answers.{Taken}
 use Rattle.checks.proofs.Records.{Fit, record_fits_lem}
 use Rattle.table.specs.declared.Kind.TheVariants.{Stored}
 use Rattle.table.specs.Entries.{breaks13}

@@ -5,14 +5,18 @@ use Rattle.endian.specs.Bytes.{peek, put}
 use Rattle.record.specs.Answers.{refused, unless_found}
 use Rattle.record.specs.Record.{extent_along, bricks_of}
 use Rattle.record.specs.declared.Record.{Record}
-use Rattle.record.specs.declared.Verdict.{Verdict}
-use Rattle.record.specs.declared.Verdict.TheVariants.{Taken, Refused}
+use Rattle.record.specs.Answers.{Verdict}
+use Rattle.record.specs.Answers.{Taken}
+use Rattle.record.specs.Answers.{refused}
 use Rattle.checks.specs.Fits.{breaks14_with}
 use Rattle.table.specs.Entries.{offset_in, breaks12}
 use Rattle.table.specs.declared.Kind.{Kind}
 use Rattle.table.specs.declared.Kind.TheVariants.{Missing, Constant, Stored}
 use Rattle.cube.specs.declared.Region.{Region}
 use Rattle.cube.specs.Places.{Place, Row, item_bytes, kind_in, brick_of, byte_of, raw_of, float_of}
+use Rattle.record.specs.declared.Refusal.TheVariants as refusal
+use Rattle.std.specs.Prelude.{Ok}
+use Rattle.std.specs.Prelude.{Err}
 
 -- start and count of a region in direction i
 abbrev pub start_of : Region → ℕ → ℕ
@@ -99,11 +103,11 @@ module _ (r : Record) where
   -- checks 14, 15, 16, 18 and 12: room is what the lent buffer has, need what the region takes
   unfoldable pub region_verdict : List ℕ → Region → ℕ → ℕ → Verdict → Verdict
   region_verdict f g room need later =
-      cond (breaks14_with r (length f)) (refused 14)
-      (cond (leb r.levels g.level) (refused 15)
-      (cond (not (in_extent g)) (refused 16)
-      (cond (ltb room need) (refused 18)
-      (unless_touched 12 (touches g) (breaks12 r f)
+      cond (breaks14_with r (length f)) (refused refusal.Record)
+      (cond (leb r.levels g.level) (refused refusal.Level)
+      (cond (not (in_extent g)) (refused refusal.Index)
+      (cond (ltb room need) (refused refusal.Room)
+      (unless_touched refusal.Range (touches g) (breaks12 r f)
       later))))
 
   -- a raw read into a buffer of n bytes, a float read into one of n floats, a write of n lent bytes
@@ -114,12 +118,12 @@ module _ (r : Record) where
   float_verdict f g n = region_verdict f g n (size_of g) Taken
 
   unfoldable pub write_verdict : List ℕ → Region → ℕ → Verdict
-  write_verdict f g n = region_verdict f g n (size_of g * item_bytes r) (unless_touched 19 (touches g) (not_stored f) Taken)
+  write_verdict f g n = region_verdict f g n (size_of g * item_bytes r) (unless_touched refusal.NotStored (touches g) (not_stored f) Taken)
 
 -- what stands after a call: what it makes where it is taken, what stood before where it is refused
 abbrev pub after : {A : Type 0} → Verdict → List A → List A → List A
-after Taken new old = new
-after (Refused x) new old = old
+after (Ok u) new old = new
+after (Err x) new old = old
 
 -- a buffer whose front is overwritten, and whose tail stays
 abbrev pub over : {A : Type 0} → List A → List A → List A

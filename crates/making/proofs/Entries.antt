@@ -14,7 +14,7 @@ use Rattle.record.specs.Types.{width_of}
 use Rattle.record.specs.Header.{text_of}
 use Rattle.record.specs.Record.{alphas_of, bricks_of, brick_bytes_of, table_of, header_of, record_of}
 use Rattle.record.specs.declared.Description.{Description}
-use Rattle.record.specs.declared.Verdict.TheVariants.{Taken}
+use Rattle.record.specs.Answers.{Taken}
 use Rattle.checks.specs.Checks.{described}
 use Rattle.checks.proofs.Described.{described-all, described-width}
 use Rattle.table.specs.Entries.{word_at, table_in, word_in, kind_in, Width}

@@ -14,10 +14,10 @@ use Rattle.text.specs.Text.{poured, Pours}
 use Rattle.record.specs.Answers.{refused, and_then}
 use Rattle.record.specs.Record.{bricks_of, alphas_of, table_of, header_of}
 use Rattle.record.specs.declared.Description.{Description}
-use Rattle.record.specs.declared.Done.TheVariants as done
 use Rattle.record.specs.declared.Refusal.{Refusal}
-use Rattle.record.specs.declared.Verdict.{Verdict}
-use Rattle.record.specs.declared.Verdict.TheVariants.{Taken, Refused}
+use Rattle.record.specs.Answers.{Verdict}
+use Rattle.record.specs.Answers.{Taken}
+use Rattle.record.specs.Answers.{refused}
 use Rattle.checks.specs.Checks.{breaks11, described}
 use Rattle.checks.proofs.Described.{passed}
 use Rattle.making.specs.Making.{zero_bytes, file_header, brick_fields, id_fields, grid_fields, current_fields, survey_fields, unit_fields, info_header, entry_bytes, after_headers, made_length, made_file, make_verdict, make_answer, make_buffer}
@@ -27,6 +27,9 @@ use Rattle.making.specs.declared.Fill.TheVariants.{Constant, Stored}
 use Rattle.making.specs.declared.Plan.{Plan}
 use Rattle.endian.proofs.Cats.{cat-same, length-cat}
 use Rattle.endian.proofs.Puts.{length-lows}
+use Rattle.record.specs.declared.Refusal.TheVariants as refusal
+use Rattle.std.specs.Prelude.{Ok}
+use Rattle.std.specs.Prelude.{Err}
 
 -- an entry, from the first and the step
 pub entry_is : (d : Description) (n : ℕ) (fill : Fill) (e : ℕ) → stepped (first_entry d n fill) (entry_step d fill) e ≡ entry_bytes d n fill e
@@ -86,7 +89,7 @@ file_length d text fill =
 -- ---- verdicts and answers
 
 module _ (d : Description) (text : List ℕ) (fill : Fill) (room : ℕ) where
-  pub making_refused : (v : Verdict) (x : Refusal) → v ≡ described d (length text) → v ≡ Refused x → v ≡ make_verdict d text fill room
+  pub making_refused : (v : Verdict) (x : Refusal) → v ≡ described d (length text) → v ≡ refused x → v ≡ make_verdict d text fill room
   unfolding make_verdict
   making_refused v x e r = r ∙ rw (sym e ∙ r)
 
@@ -94,11 +97,11 @@ module _ (d : Description) (text : List ℕ) (fill : Fill) (room : ℕ) where
   unfolding make_verdict rest_verdict
   making_rest v e r = r ∙ rw e
 
-  pub rest_11 : breaks11 text ≡ true → refused 11 ≡ rest_verdict d text fill room
+  pub rest_11 : breaks11 text ≡ true → refused refusal.Text ≡ rest_verdict d text fill room
   unfolding rest_verdict
   rest_11 e = simp e
 
-  pub rest_18 : (n : ℕ) → n ≡ made_length d (length text) fill → breaks11 text ≡ false → room < n → refused 18 ≡ rest_verdict d text fill room
+  pub rest_18 : (n : ℕ) → n ≡ made_length d (length text) fill → breaks11 text ≡ false → room < n → refused refusal.Room ≡ rest_verdict d text fill room
   unfolding rest_verdict
   rest_18 n q e h = simp (e, sym q, lt-ltb room n h)
 
@@ -113,8 +116,8 @@ pub record Checked (d : Description) (text : List ℕ) (fill : Fill) (room : ℕ
   pub fits : made_length d (length text) fill ≤ room
 
 then_taken : (v later : Verdict) → and_then v later ≡ Taken → (v ≡ Taken) × (later ≡ Taken)
-then_taken Taken later e = (refl, e)
-then_taken (Refused x) later e = let z : ◌≡◌ {A = ℕ} 0 1 = cc in absurd (omega arith)
+then_taken (Ok u) later e = (refl, e)
+then_taken (Err x) later e = let z : ◌≡◌ {A = ℕ} 0 1 = cc in absurd (omega arith)
 
 pub checked : (d : Description) (text : List ℕ) (fill : Fill) (room : ℕ) → make_verdict d text fill room ≡ Taken → Checked d text fill room
 unfolding make_verdict
@@ -132,13 +135,13 @@ poured_front out bs h =
     rw z (take_all (length out) (bs ++ drop (length bs) out) (omega (arith, length-append bs (drop (length bs) out), length-drop (length bs) out)))
 
 module _ (d : Description) (text : List ℕ) (fill : Fill) (out : List ℕ) where
-  pub made_refused : (x : Refusal) → make_verdict d text fill (length out) ≡ Refused x
-      → (done.Refused x ≡ make_answer d text fill (length out)) × (out ≡ make_buffer d text fill out)
+  pub made_refused : (x : Refusal) → make_verdict d text fill (length out) ≡ refused x
+      → (Err x ≡ make_answer d text fill (length out)) × (out ≡ make_buffer d text fill out)
   unfolding make_answer make_buffer
   made_refused x e = (rw e, rw e)
 
   pub made_taken : (out' : List ℕ) (r : ℕ) → make_verdict d text fill (length out) ≡ Taken → Pours out 0 (made_file d text fill) out' r
-      → (done.Taken r ≡ make_answer d text fill (length out)) × (out' ≡ make_buffer d text fill out)
+      → (Ok r ≡ make_answer d text fill (length out)) × (out' ≡ make_buffer d text fill out)
   unfolding make_answer make_buffer
   made_taken out' r e p =
       let f = made_file d text fill in

@@ -13,7 +13,7 @@ use Rattle.record.specs.Header.{version_of, description_of, text_length_of, text
 use Rattle.record.specs.Record.{alphas_of, bricks_of, brick_bytes_of, header_of, record_of}
 use Rattle.record.specs.declared.Description.{Description}
 use Rattle.record.specs.declared.Record.{Record}
-use Rattle.record.specs.declared.Verdict.TheVariants.{Taken}
+use Rattle.record.specs.Answers.{Taken}
 use Rattle.checks.specs.Checks.{breaks2, breaks3, breaks11, described}
 use Rattle.checks.proofs.Described.{described-all}
 use Rattle.table.specs.Entries.{kind_in, breaks12, breaks13}

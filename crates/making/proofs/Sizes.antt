@@ -11,7 +11,7 @@ use Rattle.geometry.specs.Geometry.{ceil_div, header_end}
 use Rattle.geometry.proofs.Levels.{ceil_le⁻¹}
 use Rattle.record.specs.Record.{bricks_of, alphas_of, brick_bytes_of, header_of}
 use Rattle.record.specs.declared.Description.{Description}
-use Rattle.record.specs.declared.Verdict.TheVariants.{Taken}
+use Rattle.record.specs.Answers.{Taken}
 use Rattle.record.proofs.Laws.{alphas-few}
 use Rattle.checks.specs.Checks.{breaks9, described}
 use Rattle.checks.proofs.Described.{all3-each, described-all, described_sized, described-few, described_text, described-brick}

@@ -10,7 +10,7 @@ use Rattle.record.specs.Header.{text_of}
 use Rattle.record.specs.Types.{coding_of, width_of}
 use Rattle.record.specs.Record.{bricks_of, alphas_of, brick_bytes_of, header_of, record_of}
 use Rattle.record.specs.declared.Description.{Description}
-use Rattle.record.specs.declared.Verdict.TheVariants.{Taken}
+use Rattle.record.specs.Answers.{Taken}
 use Rattle.checks.specs.Checks.{described, breaks4, breaks5, breaks6, breaks7, breaks8, breaks9, breaks11, zeros, side_ok, size_ok}
 use Rattle.table.specs.declared.Kind.{Kind}
 use Rattle.table.specs.declared.Kind.TheVariants as kind
@@ -19,6 +19,7 @@ use Rattle.opening.specs.Opening.{open_verdict, record_in}
 use Rattle.making.specs.Making.{first_brick, made_length, made_file, make_verdict}
 use Rattle.making.specs.declared.Fill.{Fill}
 use Rattle.making.specs.declared.Fill.TheVariants.{Constant, Stored}
+use Rattle.record.specs.declared.Refusal.TheVariants as refusal
 
 -- n numbers, each below b
 pub record Items (n b : ℕ) (l : List ℕ) : Type 0 where
@@ -96,6 +97,6 @@ stored_13 : make_verdict worked13 (replicate 5 0) Stored 2496 ≡ Taken
 unfolding worked13 make_verdict made_length first_brick described breaks4 breaks5 breaks6 breaks7 breaks8 breaks9 breaks11 zeros side_ok size_ok coding_of width_of range_ok finite bricks_of alphas_of brick_bytes_of header_of halved first_from sum_to of_bits lt
 stored_13 = refl
 
-short_13 : make_verdict worked13 (replicate 5 0) Stored 2495 ≡ refused 18
+short_13 : make_verdict worked13 (replicate 5 0) Stored 2495 ≡ refused refusal.Room
 unfolding worked13 make_verdict made_length first_brick described breaks4 breaks5 breaks6 breaks7 breaks8 breaks9 breaks11 zeros side_ok size_ok coding_of width_of range_ok finite bricks_of alphas_of brick_bytes_of header_of halved first_from sum_to of_bits lt
 short_13 = refl

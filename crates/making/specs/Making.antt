@@ -9,12 +9,16 @@ use Rattle.floats.specs.Rules.{survey_size}
 use Rattle.record.specs.Answers.{refused, and_then, done_of}
 use Rattle.record.specs.Record.{size_of, bricks_of, alphas_of, brick_bytes_of, header_of}
 use Rattle.record.specs.declared.Description.{Description}
-use Rattle.record.specs.declared.Done.{Done}
-use Rattle.record.specs.declared.Verdict.{Verdict}
-use Rattle.record.specs.declared.Verdict.TheVariants.{Taken, Refused}
+use Rattle.record.specs.Answers.{Done}
+use Rattle.record.specs.Answers.{Verdict}
+use Rattle.record.specs.Answers.{Taken}
+use Rattle.record.specs.Answers.{refused}
 use Rattle.checks.specs.Checks.{breaks11, described}
 use Rattle.making.specs.declared.Fill.{Fill}
 use Rattle.making.specs.declared.Fill.TheVariants.{Constant, Stored}
+use Rattle.record.specs.declared.Refusal.TheVariants as refusal
+use Rattle.std.specs.Prelude.{Ok}
+use Rattle.std.specs.Prelude.{Err}
 
 -- n zero bytes
 abbrev pub zero_bytes : ℕ → List ℕ
@@ -101,8 +105,8 @@ made_file d text fill =
 unfoldable pub make_verdict : Description → List ℕ → Fill → ℕ → Verdict
 make_verdict d text fill room =
     and_then (described d (length text))
-    (cond (breaks11 text) (refused 11)
-    (cond (ltb room (made_length d (length text) fill)) (refused 18)
+    (cond (breaks11 text) (refused refusal.Text)
+    (cond (ltb room (made_length d (length text) fill)) (refused refusal.Room)
     Taken))
 
 -- what make answers: the length of the file, or a refusal
@@ -111,8 +115,8 @@ make_answer d text fill room = done_of (make_verdict d text fill room) (made_len
 
 -- the buffer after it: the file and what stood after it; as it was where refused
 abbrev pub buffer_if : Verdict → List ℕ → List ℕ → List ℕ
-buffer_if Taken file buffer = file ++ drop (length file) buffer
-buffer_if (Refused x) file buffer = buffer
+buffer_if (Ok u) file buffer = file ++ drop (length file) buffer
+buffer_if (Err x) file buffer = buffer
 
 unfoldable pub make_buffer : Description → List ℕ → Fill → List ℕ → List ℕ
 make_buffer d text fill buffer = buffer_if (make_verdict d text fill (length buffer)) (made_file d text fill) buffer

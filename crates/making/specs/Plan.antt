@@ -6,13 +6,14 @@ use Rattle.floats.specs.Rules.{finite_bits}
 use Rattle.record.specs.Answers.{refused}
 use Rattle.record.specs.Record.{size_of, bricks_of, alphas_of, brick_bytes_of}
 use Rattle.record.specs.declared.Description.{Description}
-use Rattle.record.specs.declared.Verdict.{Verdict}
-use Rattle.record.specs.declared.Verdict.TheVariants.{Taken}
+use Rattle.record.specs.Answers.{Verdict}
+use Rattle.record.specs.Answers.{Taken}
 use Rattle.checks.specs.Checks.{breaks11}
 use Rattle.making.specs.Making.{zero_bytes, survey_of, file_header, info_header, first_brick, after_headers, made_length}
 use Rattle.making.specs.declared.Fill.{Fill}
 use Rattle.making.specs.declared.Fill.TheVariants.{Constant, Stored}
 use Rattle.making.specs.declared.Plan.{Plan}
+use Rattle.record.specs.declared.Refusal.TheVariants as refusal
 
 -- direction i has a finite inc and an allowed size
 pub record MeasuredIn (d : Description) (i : ℕ) : Type 0 where
@@ -58,6 +59,6 @@ headed d text = file_header ++ info_header d (length text) ++ text ++ zero_bytes
 -- checks 11 and 18
 unfoldable pub rest_verdict : Description → List ℕ → Fill → ℕ → Verdict
 rest_verdict d text fill room =
-    cond (breaks11 text) (refused 11)
-    (cond (ltb room (made_length d (length text) fill)) (refused 18)
+    cond (breaks11 text) (refused refusal.Text)
+    (cond (ltb room (made_length d (length text) fill)) (refused refusal.Room)
     Taken)

@@ -7,7 +7,7 @@
 ghost use Rattle.std.specs.Prelude.{◌≡◌, ◌+◌, ◌*◌, ◌<◌, min, length};
 ghost use Rattle.endian.specs.Loops.{cat};
 ghost use Rattle.endian.specs.Bytes.{lows};
-ghost use Rattle.record.specs.declared.Verdict.TheVariants.{Taken};
+ghost use Rattle.record.specs.Answers.{Taken};
 ghost use Rattle.checks.specs.Checks.{described};
 ghost use Rattle.geometry.specs.Limits.{longest_text};
 ghost use Rattle.text.specs.Text.{Pours};

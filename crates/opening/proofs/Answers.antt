@@ -11,18 +11,20 @@ use Rattle.record.specs.Header.{text_of}
 use Rattle.record.specs.Record.{bricks_of, header_of, no_record}
 use Rattle.record.specs.declared.Record.{Record}
 use Rattle.record.specs.declared.Refusal.{Refusal}
-use Rattle.record.specs.declared.Verdict.TheVariants.{Taken, Refused}
+use Rattle.record.specs.Answers.{Taken}
+use Rattle.record.specs.Answers.{refused}
 use Rattle.checks.specs.Checks.{breaks11}
 use Rattle.table.specs.Entries.{breaks12, breaks13}
 use Rattle.opening.specs.Opening.{length_verdict, text_verdict, range_verdict, overlap_verdict, entries_verdict, body_verdict}
 use Rattle.opening.specs.Opening.{header_verdict, open_verdict, record_in, opened_by, opened_of}
+use Rattle.record.specs.declared.Refusal.TheVariants as refusal
 
 module _ (r : Record) (f : List ℕ) where
-  pub body_10 : length f < header_of r.description r.text → refused 10 ≡ body_verdict r f
+  pub body_10 : length f < header_of r.description r.text → refused refusal.Headers ≡ body_verdict r f
   unfolding body_verdict length_verdict
   body_10 h = simp (lt-ltb _ _ h)
 
-  pub body_11 : header_of r.description r.text ≤ length f → breaks11 (text_of f r.text) ≡ true → refused 11 ≡ body_verdict r f
+  pub body_11 : header_of r.description r.text ≤ length f → breaks11 (text_of f r.text) ≡ true → refused refusal.Text ≡ body_verdict r f
   unfolding body_verdict length_verdict text_verdict
   body_11 h e = simp (le-ltb _ _ h, e)
 
@@ -32,12 +34,12 @@ module _ (r : Record) (f : List ℕ) where
 
   -- checks 12 and 13 as the searches answer them
   module _ (o : ℕ) (is-o : o ≡ first (breaks12 r f) (bricks_of r.description)) where
-    pub found_12 : o < bricks_of r.description → refused_at 12 o ≡ entries_verdict r f
+    pub found_12 : o < bricks_of r.description → refused (refusal.Range o) ≡ entries_verdict r f
     unfolding entries_verdict range_verdict
     found_12 h = simp (sym is-o, lt-ltb o (bricks_of r.description) h)
 
     module _ (none : bricks_of r.description ≤ o) (p : ℕ) (is-p : p ≡ first (breaks13 r f) (bricks_of r.description)) where
-      pub found_13 : p < bricks_of r.description → refused_at 13 p ≡ entries_verdict r f
+      pub found_13 : p < bricks_of r.description → refused (refusal.Overlap p) ≡ entries_verdict r f
       unfolding entries_verdict range_verdict overlap_verdict
       found_13 h = simp (sym is-o, le-ltb o (bricks_of r.description) none, sym is-p, lt-ltb p (bricks_of r.description) h)
 
@@ -47,7 +49,7 @@ module _ (r : Record) (f : List ℕ) where
 
 -- the header's verdict decides where it refuses, else the body's does
 module _ (f : List ℕ) where
-  pub opened_early : (x : Refusal) → header_verdict f ≡ Refused x → opened_by (Refused x) no_record ≡ opened_of f
+  pub opened_early : (x : Refusal) → header_verdict f ≡ refused x → opened_by (refused x) no_record ≡ opened_of f
   unfolding opened_of open_verdict
   opened_early x e = rw e
 

@@ -11,11 +11,12 @@ use Rattle.record.specs.Answers.{refused}
 use Rattle.record.specs.Header.{version_of, description_of, text_length_of}
 use Rattle.record.specs.Record.{table_of, record_of}
 use Rattle.record.specs.declared.Description.{Description}
-use Rattle.record.specs.declared.Verdict.TheVariants.{Taken}
+use Rattle.record.specs.Answers.{Taken}
 use Rattle.checks.specs.Checks.{breaks2, breaks3, described}
 use Rattle.checks.proofs.Described.{passed, Described, described-all}
 use Rattle.table.specs.Entries.{Derived}
 use Rattle.opening.specs.Opening.{header_verdict}
+use Rattle.record.specs.declared.Refusal.TheVariants as refusal
 
 -- checks 1 to 9, none of which applies
 pub record Head (f : List ℕ) : Type 0 where
@@ -34,17 +35,17 @@ module _ (f : List ℕ) where
       record { long = ltb-false _ _ a.0; not2 = b.0; not3 = c.0; is-described = described-all _ _ c.1 }
 
   -- one check after the other
-  pub header_1 : length f < text_start → header_verdict f ≡ refused 1
+  pub header_1 : length f < text_start → header_verdict f ≡ refused refusal.Short
   unfolding header_verdict
   header_1 h = simp (lt-ltb _ _ h)
 
   module _ (long : text_start ≤ length f) where
-    pub header_2 : breaks2 f ≡ true → header_verdict f ≡ refused 2
+    pub header_2 : breaks2 f ≡ true → header_verdict f ≡ refused refusal.Magic
     unfolding header_verdict
     header_2 e = simp (le-ltb _ _ long, e)
 
     module _ (not2 : breaks2 f ≡ false) where
-      pub header_3 : breaks3 (version_of f) ≡ true → header_verdict f ≡ refused 3
+      pub header_3 : breaks3 (version_of f) ≡ true → header_verdict f ≡ refused refusal.Version
       unfolding header_verdict
       header_3 e = simp (le-ltb _ _ long, not2, e)
 

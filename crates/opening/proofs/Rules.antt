@@ -23,8 +23,9 @@ use Rattle.record.specs.Types.{coding_of, no_type}
 use Rattle.record.specs.Header.{three_at, two_at, version_of, description_of, text_length_of, text_of}
 use Rattle.record.specs.Record.{side_of, size_of, bricks_of, header_of, record_of}
 use Rattle.record.specs.declared.Description.{Description}
-use Rattle.record.specs.declared.Verdict.{Verdict}
-use Rattle.record.specs.declared.Verdict.TheVariants.{Taken, Refused}
+use Rattle.record.specs.Answers.{Verdict}
+use Rattle.record.specs.Answers.{Taken}
+use Rattle.record.specs.Answers.{refused}
 use Rattle.checks.specs.Checks.{all3, side_ok, size_ok, brick_limit, zeros, breaks2, breaks3, breaks4, breaks5, breaks6, breaks7, breaks8, breaks9, breaks11}
 use Rattle.checks.proofs.Described.{passed, not-false, both, either, all3-each, each_of, side-exponent, side-is, size-range, described-is, described-few, described_text}
 use Rattle.checks.proofs.Records.{Words, finites, record_fits_lem, fit_with}
@@ -35,11 +36,13 @@ use Rattle.opening.specs.Opening.{length_verdict, text_verdict, range_verdict, o
 use Rattle.opening.specs.Opening.{header_verdict, open_verdict, record_in}
 use Rattle.opening.specs.Cube.{Side, Finite, CodingRange, Cube, OpensExactly, RecordPasses}
 use Rattle.opening.proofs.Header.{Head, head, text_before, made_derived}
+use Rattle.std.specs.Prelude.{Ok}
+use Rattle.std.specs.Prelude.{Err}
 
 -- a verdict whose first part and whose later part took the call
 pub both_taken : (v later : Verdict) → and_then v later ≡ Taken → (v ≡ Taken) × (later ≡ Taken)
-both_taken Taken later e = (refl, e)
-both_taken (Refused x) later e = let z : ◌≡◌ {A = ℕ} 0 1 = cc in absurd (omega arith)
+both_taken (Ok u) later e = (refl, e)
+both_taken (Err x) later e = let z : ◌≡◌ {A = ℕ} 0 1 = cc in absurd (omega arith)
 
 -- no entry breaks the check, so the search for one finds none and the later checks took the call
 pub none_found : (n : ℕ) (p : ℕ → Bool) (m : ℕ) (later : Verdict) → unless_found n (first p m) m later ≡ Taken → ((e : ℕ) → e < m → p e ≡ false) × (later ≡ Taken)

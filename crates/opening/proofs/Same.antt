@@ -12,7 +12,7 @@ use Rattle.record.specs.Header.{three_at, two_at, id_at, version_of, description
 use Rattle.record.specs.Record.{bricks_of, table_of, header_of, record_of}
 use Rattle.record.specs.declared.Description.{Description}
 use Rattle.record.specs.declared.Record.{Record}
-use Rattle.record.specs.declared.Verdict.TheVariants.{Taken}
+use Rattle.record.specs.Answers.{Taken}
 use Rattle.table.specs.Entries.{kind_in}
 use Rattle.table.proofs.Tables.{header_table, names_same}
 use Rattle.opening.specs.Opening.{open_verdict, record_in}

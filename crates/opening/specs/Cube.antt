@@ -7,7 +7,7 @@ use Rattle.geometry.specs.Limits.{text_start, size_limit, shortest_text, longest
 use Rattle.floats.specs.Rules.{finite}
 use Rattle.record.specs.Header.{version_of, description_of, text_length_of, text_of}
 use Rattle.record.specs.Record.{side_of, size_of, bricks_of, brick_bytes_of, header_of}
-use Rattle.record.specs.declared.Verdict.TheVariants.{Taken}
+use Rattle.record.specs.Answers.{Taken}
 use Rattle.checks.specs.Checks.{zeros, brick_limit}
 use Rattle.checks.specs.Fits.{breaks14_with}
 use Rattle.table.specs.declared.Kind.TheVariants.{Stored}

@@ -6,35 +6,39 @@ use Rattle.record.specs.Answers.{refused, and_then, unless_found}
 use Rattle.record.specs.Header.{version_of, description_of, text_length_of, text_of}
 use Rattle.record.specs.Record.{bricks_of, header_of, record_of, no_record}
 use Rattle.record.specs.declared.Record.{Record}
-use Rattle.record.specs.declared.Verdict.{Verdict}
-use Rattle.record.specs.declared.Verdict.TheVariants.{Taken, Refused}
+use Rattle.record.specs.Answers.{Verdict}
+use Rattle.record.specs.Answers.{Taken}
+use Rattle.record.specs.Answers.{refused}
 use Rattle.checks.specs.Checks.{breaks2, breaks3, breaks11, described}
 use Rattle.table.specs.Entries.{breaks12, breaks13}
 use Rattle.opening.specs.declared.Opened.{Opened}
+use Rattle.record.specs.declared.Refusal.TheVariants as refusal
+use Rattle.std.specs.Prelude.{Ok}
+use Rattle.std.specs.Prelude.{Err}
 
 -- checks 1 to 9
 unfoldable pub header_verdict : List ℕ → Verdict
 header_verdict f =
-    cond (ltb (length f) text_start) (refused 1)
-    (cond (breaks2 f) (refused 2)
-    (cond (breaks3 (version_of f)) (refused 3)
+    cond (ltb (length f) text_start) (refused refusal.Short)
+    (cond (breaks2 f) (refused refusal.Magic)
+    (cond (breaks3 (version_of f)) (refused refusal.Version)
     (described (description_of f) (text_length_of f))))
 
 -- of a file f whose header has the record r
 module _ (r : Record) (f : List ℕ) where
   -- check 10, and check 11
   unfoldable pub length_verdict : Verdict
-  length_verdict = cond (ltb (length f) (header_of r.description r.text)) (refused 10) Taken
+  length_verdict = cond (ltb (length f) (header_of r.description r.text)) (refused refusal.Headers) Taken
 
   unfoldable pub text_verdict : Verdict
-  text_verdict = cond (breaks11 (text_of f r.text)) (refused 11) Taken
+  text_verdict = cond (breaks11 (text_of f r.text)) (refused refusal.Text) Taken
 
   -- check 12, and check 13, over all entries
   unfoldable pub range_verdict : Verdict
-  range_verdict = unless_found 12 (first (breaks12 r f) (bricks_of r.description)) (bricks_of r.description) Taken
+  range_verdict = unless_found refusal.Range (first (breaks12 r f) (bricks_of r.description)) (bricks_of r.description) Taken
 
   unfoldable pub overlap_verdict : Verdict
-  overlap_verdict = unless_found 13 (first (breaks13 r f) (bricks_of r.description)) (bricks_of r.description) Taken
+  overlap_verdict = unless_found refusal.Overlap (first (breaks13 r f) (bricks_of r.description)) (bricks_of r.description) Taken
 
   -- checks 12 and 13
   unfoldable pub entries_verdict : Verdict
@@ -54,8 +58,8 @@ open_verdict f = and_then (header_verdict f) (body_verdict (record_in f) f)
 
 -- the record where the verdict is taken, none where it is refused
 abbrev pub record_if : Verdict → Record → Record
-record_if Taken r = r
-record_if (Refused x) r = no_record
+record_if (Ok u) r = r
+record_if (Err x) r = no_record
 
 -- the answer by the verdict
 abbrev pub opened_by : Verdict → Record → Opened

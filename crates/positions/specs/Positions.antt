@@ -5,8 +5,9 @@ use Rattle.std.specs.Float.{nan}
 use Rattle.floats.specs.Position.{position_of, Near}
 use Rattle.record.specs.Record.{size_of}
 use Rattle.record.specs.declared.Record.{Record}
-use Rattle.record.specs.declared.Verdict.{Verdict}
-use Rattle.record.specs.declared.Verdict.TheVariants.{Taken, Refused}
+use Rattle.record.specs.Answers.{Verdict}
+use Rattle.record.specs.Answers.{Taken}
+use Rattle.record.specs.Answers.{refused}
 use Rattle.checks.specs.Fits.{breaks14}
 use Rattle.positions.specs.declared.Located.{Located}
 use Rattle.positions.specs.declared.Located.TheVariants as located
@@ -21,7 +22,7 @@ inc_in r k = get_or r.grid.inc k nan
 -- what position answers, by its cases: the verdict, whose numbers are those of FORMAT 9.2, and the value, which a refusal has not
 abbrev pub located_verdict : Located → Verdict
 located_verdict (located.At x) = Taken
-located_verdict (located.Refused x) = Refused x
+located_verdict (located.Refused x) = refused x
 
 abbrev pub located_value : Located → Option Float
 located_value (located.At x) = some x

@@ -8,7 +8,7 @@ ghost use Rattle.endian.specs.Loops.{cat};
 ghost use Rattle.endian.specs.Bytes.{lows};
 ghost use Rattle.table.specs.Entries.{Width};
 ghost use Rattle.table.specs.declared.Kind.TheVariants.{Stored};
-ghost use Rattle.record.specs.declared.Verdict.TheVariants.{Taken};
+ghost use Rattle.record.specs.Answers.{Taken};
 ghost use Rattle.cube.specs.Places.{item_bytes, rows_of, kind_in, brick_of, item_no};
 ghost use Rattle.cube.specs.Calls.{raw_read, raw, answer_of, buffers_after};
 ghost use Rattle.cube.specs.Regions.{run_of, place, size_of, raw_rows, raw_verdict, over};

@@ -26,7 +26,7 @@ abbrev pub type_verdict : Result Coding Refusal → Verdict
 type_verdict = verdict_of
 
 abbrev pub no_type : Result Coding Refusal → Bool
-no_type x = not (is_taken x)
+no_type x = not (is_taken (type_verdict x))
 
 unfoldable pub width_of : ℕ → ℕ
 width_of k = item_width (coding_of k)

@@ -5,8 +5,8 @@ use Rattle.std.proofs.Math.Option.{Option, none, some}
 use Rattle.endian.specs.Loops.{cat}
 use Rattle.record.specs.Record.{side_of, bricks_along}
 use Rattle.record.specs.declared.Record.{Record}
-use Rattle.record.specs.declared.Verdict.{Verdict}
-use Rattle.record.specs.declared.Verdict.TheVariants.{Taken}
+use Rattle.record.specs.Answers.{Verdict}
+use Rattle.record.specs.Answers.{Taken}
 use Rattle.checks.specs.Fits.{record_fits}
 use Rattle.table.specs.Entries.{kind_at, outside_at}
 use Rattle.table.specs.declared.Table.{Table}

@@ -11,7 +11,8 @@ use Rattle.text.specs.Text.{bytes_of, Pours}
 use Rattle.text.proofs.Pour.{poured-none, poured_step, poured-length}
 use Rattle.record.specs.declared.Record.{Record}
 use Rattle.record.specs.declared.Refusal.{Refusal}
-use Rattle.record.specs.declared.Verdict.TheVariants.{Taken, Refused}
+use Rattle.record.specs.Answers.{Taken}
+use Rattle.record.specs.Answers.{refused}
 use Rattle.table.specs.declared.Kind.{Kind}
 use Rattle.table.specs.declared.Table.{Table}
 use Rattle.table.specs.Entries.{kind_at, table_in, kind_in, Derived}
@@ -56,7 +57,7 @@ module _ (f : List ℕ) where
   unfolding listing_of
   list_long h = rw (lt-ltb _ _ h)
 
-  pub list_refused : (x : Refusal) → length f ≤ longest → open_verdict f ≡ Refused x → listing_of f ≡ refused_line x
+  pub list_refused : (x : Refusal) → length f ≤ longest → open_verdict f ≡ refused x → listing_of f ≡ refused_line x
   unfolding listing_of
   list_refused x h e = rw (le-ltb _ _ h, e)
 

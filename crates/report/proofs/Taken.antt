@@ -2,7 +2,7 @@
 use mathlib.Core.List.{List}
 use mathlib.Core.Path.{◌≡◌, ap, ◌∙◌}
 use Prim.Native.Nat.{ℕ}
-use Rattle.record.specs.declared.Verdict.TheVariants.{Taken}
+use Rattle.record.specs.Answers.{Taken}
 use Rattle.opening.specs.Opening.{open_verdict, record_in, opened_of}
 use Rattle.opening.specs.declared.Opened.{Opened}
 

@@ -8,12 +8,15 @@ use Rattle.record.specs.declared.Coding.{Coding}
 use Rattle.record.specs.declared.Coding.TheVariants.{Scaled, Float32, NoType}
 use Rattle.record.specs.declared.Record.{Record}
 use Rattle.record.specs.declared.Refusal.{Refusal}
-use Rattle.record.specs.declared.Verdict.{Verdict}
-use Rattle.record.specs.declared.Verdict.TheVariants.{Taken, Refused}
+use Rattle.record.specs.Answers.{Verdict}
+use Rattle.record.specs.Answers.{Taken}
+use Rattle.record.specs.Answers.{refused}
 use Rattle.table.specs.declared.Kind.{Kind}
 use Rattle.table.specs.declared.Kind.TheVariants.{Missing, Constant, Stored}
 use Rattle.table.specs.Entries.{kind_in}
 use Rattle.opening.specs.Opening.{open_verdict, record_in}
+use Rattle.std.specs.Prelude.{Ok}
+use Rattle.std.specs.Prelude.{Err}
 
 -- a space, and the end of a line
 abbrev pub space : List ℕ
@@ -78,8 +81,8 @@ cube_lines f r = header_lines r ++ entry_lines r.description.datatype (kind_in r
 
 -- the listing by opening's verdict
 abbrev pub lines_by : Verdict → List ℕ → List ℕ
-lines_by Taken lines = lines
-lines_by (Refused x) lines = refused_line x
+lines_by (Ok u) lines = lines
+lines_by (Err x) lines = refused_line x
 
 -- the most bytes that a listed file has
 abbrev pub longest : ℕ

@@ -5,7 +5,7 @@ use mathlib.Core.List.{List}
 use native.Mathlib.Omega.{arith}
 use native.Mathlib.Nat.{mul_assoc}
 use Rattle.record.specs.declared.Record.{Record}
-use Rattle.record.specs.declared.Verdict.TheVariants.{Taken}
+use Rattle.record.specs.Answers.{Taken}
 use Rattle.cube.specs.declared.Region.{Region}
 use Rattle.cube.specs.Regions.{run_of, size_of, float_verdict}
 use Rattle.cube.proofs.Regions.{Passed, float_passed}

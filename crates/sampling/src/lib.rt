@@ -6,7 +6,7 @@ ghost use Rattle.endian.specs.Loops.{cat};
 ghost use Rattle.endian.specs.Bytes.{peek};
 ghost use Rattle.table.specs.Entries.{Width};
 ghost use Rattle.table.specs.declared.Kind.TheVariants.{Constant, Stored};
-ghost use Rattle.record.specs.declared.Verdict.TheVariants.{Taken};
+ghost use Rattle.record.specs.Answers.{Taken};
 ghost use Rattle.cube.specs.Places.{item_bytes, rows_of, kind_in, brick_of, item_no};
 ghost use Rattle.cube.specs.Calls.{float_read, floats, answer_of, buffers_after};
 ghost use Rattle.cube.specs.Regions.{run_of, place, size_of, float_rows, float_verdict, over};

@@ -12,14 +12,17 @@ use Rattle.geometry.specs.Limits.{text_start}
 use Rattle.endian.specs.Bytes.{peek}
 use Rattle.endian.proofs.Puts.{peek_part, length-peek}
 use Rattle.record.specs.declared.Record.{Record}
-use Rattle.record.specs.declared.Verdict.{Verdict}
-use Rattle.record.specs.declared.Verdict.TheVariants.{Taken, Refused}
+use Rattle.record.specs.Answers.{Verdict}
+use Rattle.record.specs.Answers.{Taken}
+use Rattle.record.specs.Answers.{refused}
 use Rattle.strings.specs.Strings.{strings_verdict, text_in, end_of, string_at, turn_of, turn_verdict, turn_string, turn_by, place_of, turn_in, strings_of}
 use Rattle.strings.specs.declared.Turn.{Turn}
 use Rattle.strings.specs.declared.Turn.TheVariants.{Item, Done}
 use Rattle.strings.proofs.Ends.{end_low, end_high}
 use Rattle.strings.proofs.Turns.{turn-item, turn-done, string_done, string_nth, item-found}
 use Rattle.strings.proofs.Verdicts.{text_inside, taken-passes, text_taken, text_refused}
+use Rattle.std.specs.Prelude.{Ok}
+use Rattle.std.specs.Prelude.{Err}
 
 module _ (r : Record) (f : List ℕ) (n : ℕ) where
   abbrev t : List ℕ
@@ -37,20 +40,20 @@ module _ (r : Record) (f : List ℕ) (n : ℕ) where
       found false = refl
 
       go : (v : Verdict) → turn_verdict (turn_by v t at) ≡ v
-      go Taken = found (ltb at (length t))
-      go (Refused x) = refl
+      go (Ok u) = found (ltb at (length t))
+      go (Err x) = refl
 
   pub turn-nth : Option.get_or (turn_string t (turn_in r f n)) [] ≡ get_or (strings_of t) n []
   unfolding string_at
   turn-nth = go (strings_verdict r f) refl ∙ sym (string_nth t n)
     where
       go : (v : Verdict) → strings_verdict r f ≡ v → Option.get_or (turn_string t (turn_by v t at)) [] ≡ string_at t at
-      go Taken e =
+      go (Ok u) e =
           elim (dec_le (length t) at) [
             | yes g ↦ rw (turn-done t at g) (sym (string_done t at g))
             | no g ↦ rw (turn-item t at (omega arith))
           ]
-      go (Refused x) e = sym (string_done t at (omega (arith, ap length (text_refused r f x e))))
+      go (Err x) e = sym (string_done t at (omega (arith, ap length (text_refused r f x e))))
 
   module _ (start end next : ℕ) (e : Item start end next ≡ turn_in r f n) where
     -- a refused walker hands out no string

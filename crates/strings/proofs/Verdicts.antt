@@ -10,7 +10,8 @@ use Rattle.record.specs.Header.{text_of}
 use Rattle.record.specs.Record.{header_of}
 use Rattle.record.specs.declared.Record.{Record}
 use Rattle.record.specs.declared.Refusal.{Refusal}
-use Rattle.record.specs.declared.Verdict.TheVariants.{Taken, Refused}
+use Rattle.record.specs.Answers.{Taken}
+use Rattle.record.specs.Answers.{refused}
 use Rattle.checks.specs.Checks.{breaks11}
 use Rattle.checks.specs.Fits.{breaks14_with}
 use Rattle.checks.proofs.Described.{passed, described_text}
@@ -38,12 +39,12 @@ module _ (r : Record) (f : List ℕ) where
   unfolding text_in
   text_taken e = rw e
 
-  pub text_refused : (x : Refusal) → strings_verdict r f ≡ Refused x → text_in r f ≡ []
+  pub text_refused : (x : Refusal) → strings_verdict r f ≡ refused x → text_in r f ≡ []
   unfolding text_in
   text_refused x e = rw e
 
   pub cube_five : strings_verdict r f ≡ Taken → (text_in r f ≡ text_of f r.text) × Five (text_in r f)
   cube_five e = (text_taken e, rw (text_taken e) (text_five _ (taken-passes e).1))
 
-  pub refused_turns : (n : ℕ) (x : Refusal) → strings_verdict r f ≡ Refused x → (text_in r f ≡ []) × (turn_in r f n ≡ turn.Refused x)
+  pub refused_turns : (n : ℕ) (x : Refusal) → strings_verdict r f ≡ refused x → (text_in r f ≡ []) × (turn_in r f n ≡ turn.Refused x)
   refused_turns n x e = (text_refused x e, rw e)

@@ -4,7 +4,8 @@ use Rattle.std.proofs.Math.Option
 use Rattle.record.specs.Header.{text_of}
 use Rattle.record.specs.declared.Record.{Record}
 use Rattle.record.specs.declared.Refusal.{Refusal}
-use Rattle.record.specs.declared.Verdict.TheVariants.{Taken, Refused}
+use Rattle.record.specs.Answers.{Taken}
+use Rattle.record.specs.Answers.{refused}
 use Rattle.checks.specs.Checks.{breaks11}
 use Rattle.strings.specs.Strings.{strings_verdict, text_in, end_of, string_at, turn_of, turn_verdict, turn_string, place_of, turn_in, strings_of}
 use Rattle.strings.specs.declared.Turn.TheVariants as turn
@@ -39,7 +40,7 @@ pub record FiveStrings : Type 0 where
   -- the text that a taken walker holds is the text section, five strings
   pub of_cube : (r : Record) (f : List ℕ) → strings_verdict r f ≡ Taken → (text_in r f ≡ text_of f r.text) × Five (text_in r f)
   -- a refused walker holds no text, and every turn says the refusal
-  pub of_refused : (r : Record) (f : List ℕ) (n : ℕ) (x : Refusal) → strings_verdict r f ≡ Refused x → (text_in r f ≡ []) × (turn_in r f n ≡ turn.Refused x)
+  pub of_refused : (r : Record) (f : List ℕ) (n : ℕ) (x : Refusal) → strings_verdict r f ≡ refused x → (text_in r f ≡ []) × (turn_in r f n ≡ turn.Refused x)
   -- a turn's verdict is the walk's, and turn n hands out the n-th string
   pub of_turn : (r : Record) (f : List ℕ) (n : ℕ)
       → (turn_verdict (turn_in r f n) ≡ strings_verdict r f) × (Option.get_or (turn_string (text_in r f) (turn_in r f n)) [] ≡ get_or (strings_of (text_in r f)) n [])

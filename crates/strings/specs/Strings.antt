@@ -6,19 +6,23 @@ use Rattle.endian.specs.Bytes.{peek}
 use Rattle.record.specs.Answers.{refused, is_taken}
 use Rattle.record.specs.Header.{text_of}
 use Rattle.record.specs.declared.Record.{Record}
-use Rattle.record.specs.declared.Verdict.{Verdict}
-use Rattle.record.specs.declared.Verdict.TheVariants.{Taken, Refused}
+use Rattle.record.specs.Answers.{Verdict}
+use Rattle.record.specs.Answers.{Taken}
+use Rattle.record.specs.Answers.{refused}
 use Rattle.checks.specs.Checks.{breaks11}
 use Rattle.checks.specs.Fits.{breaks14_with}
 use Rattle.strings.specs.declared.Turn.{Turn}
 use Rattle.strings.specs.declared.Turn.TheVariants as turn
 use Rattle.strings.specs.declared.Turn.TheVariants.{Item, Done}
+use Rattle.record.specs.declared.Refusal.TheVariants as refusal
+use Rattle.std.specs.Prelude.{Ok}
+use Rattle.std.specs.Prelude.{Err}
 
 -- check 14 with the file f, then check 11 of its text section
 unfoldable pub strings_verdict : Record → List ℕ → Verdict
 strings_verdict r f =
-    cond (breaks14_with r (length f)) (refused 14)
-    (cond (breaks11 (text_of f r.text)) (refused 11)
+    cond (breaks14_with r (length f)) (refused refusal.Record)
+    (cond (breaks11 (text_of f r.text)) (refused refusal.Text)
     Taken)
 
 -- the text that a walker holds: the text section, or none where it is refused
@@ -46,7 +50,7 @@ turn_of t at = cond (ltb at (length t)) (Item at (end_of t at) (end_of t at + 1)
 abbrev pub turn_verdict : Turn → Verdict
 turn_verdict (Item start end next) = Taken
 turn_verdict Done = Taken
-turn_verdict (turn.Refused x) = Refused x
+turn_verdict (turn.Refused x) = refused x
 
 abbrev pub turn_string : List ℕ → Turn → Option (List ℕ)
 turn_string t (Item start end next) = some (peek t start (end - start))
@@ -60,8 +64,8 @@ after_turn at (turn.Refused x) = at
 
 -- what a walker with a verdict stands at
 abbrev pub turn_by : Verdict → List ℕ → ℕ → Turn
-turn_by Taken t at = turn_of t at
-turn_by (Refused x) t at = turn.Refused x
+turn_by (Ok u) t at = turn_of t at
+turn_by (Err x) t at = turn.Refused x
 
 -- where a walker that starts at a place stands after n turns
 unfoldable pub place_from : List ℕ → ℕ → ℕ → ℕ

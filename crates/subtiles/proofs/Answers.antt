@@ -8,15 +8,15 @@ use borrow.Author.Tests.{ltb-false}
 use Rattle.endian.proofs.Search.{clash}
 use Rattle.subtiles.specs.Subtiles.{breaks20}
 use Rattle.subtiles.specs.Answers.{refused, bytes_in, breaks18, permute_answer, buffer_after}
-use Rattle.record.specs.declared.Done.{Done}
-use Rattle.record.specs.declared.Done.TheVariants.{Taken}
+use Rattle.record.specs.Answers.{Done}
+use Rattle.record.specs.declared.Refusal.TheVariants as refusal
 
 module _ (side : List ℕ) (w from into : ℕ) where
-  pub answer_20 : breaks20 side w ≡ true → permute_answer side w from into ≡ refused 20
+  pub answer_20 : breaks20 side w ≡ true → permute_answer side w from into ≡ refused refusal.Subtiles
   unfolding permute_answer
   answer_20 e = rw e
 
-  pub answer_18 : {n : ℕ} → n ≡ bytes_in side w → breaks20 side w ≡ false → breaks18 n from into ≡ true → permute_answer side w from into ≡ refused 18
+  pub answer_18 : {n : ℕ} → n ≡ bytes_in side w → breaks20 side w ≡ false → breaks18 n from into ≡ true → permute_answer side w from into ≡ refused refusal.Room
   unfolding permute_answer
   answer_18 n e b = rw (e, ← n, b)
 

@@ -2,12 +2,14 @@
 use Rattle.std.specs.Prelude.{Bool, ◌||◌, cond, List, ◌++◌, ℕ, ltb, get_or, drop, length}
 use Rattle.geometry.specs.Geometry.{brick_bytes}
 use Rattle.subtiles.specs.Subtiles.{plain_from, subtiled_from, breaks20}
-use Rattle.record.specs.declared.Done.{Done}
-use Rattle.record.specs.declared.Done.TheVariants.{Taken, Refused}
+use Rattle.record.specs.Answers.{Done}
+use Rattle.record.specs.declared.Refusal.TheVariants as refusal
+use Rattle.std.specs.Prelude.{Ok}
+use Rattle.std.specs.Prelude.{Err}
 
 -- refused by check n
 abbrev pub refused : ℕ → Done
-refused n = Refused (record { number = n; entry = 0 })
+refused n = refused (record { number = n; entry = 0 })
 
 -- the bytes of a brick with these sides
 abbrev pub bytes_in : List ℕ → ℕ → ℕ
@@ -28,14 +30,14 @@ breaks18 bytes from into = ltb from bytes || ltb into bytes
 -- checks 20 and 18 in this order, over a brick lent in from bytes and a buffer of into bytes
 unfoldable pub permute_answer : List ℕ → ℕ → ℕ → ℕ → Done
 permute_answer side w from into =
-    cond (breaks20 side w) (refused 20)
-    (cond (breaks18 (bytes_in side w) from into) (refused 18)
+    cond (breaks20 side w) (refused refusal.Subtiles)
+    (cond (breaks18 (bytes_in side w) from into) (refused refusal.Room)
     (Taken (bytes_in side w)))
 
 -- the buffer after the call: the brick as moved and the bytes past it, or the buffer itself where the call is refused
 abbrev pub buffer_after : Done → List ℕ → List ℕ → List ℕ
-buffer_after (Taken n) moved buffer = moved ++ drop n buffer
-buffer_after (Refused x) moved buffer = buffer
+buffer_after ((Ok u) n) moved buffer = moved ++ drop n buffer
+buffer_after (Err x) moved buffer = buffer
 
 -- the buffer after a brick is put in plain order, and in the version 1 order
 abbrev pub plain_buffer : List ℕ → ℕ → List ℕ → List ℕ → List ℕ

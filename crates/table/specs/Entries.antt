@@ -6,7 +6,7 @@ use Rattle.endian.specs.Bytes.{le}
 use Rattle.record.specs.Types.{width_of}
 use Rattle.record.specs.Record.{bricks_of, alphas_of, brick_bytes_of, table_of, header_of}
 use Rattle.record.specs.declared.Record.{Record}
-use Rattle.record.specs.declared.Verdict.TheVariants.{Taken}
+use Rattle.record.specs.Answers.{Taken}
 use Rattle.checks.specs.Checks.{brick_limit, described}
 use Rattle.table.specs.declared.Kind.{Kind}
 use Rattle.table.specs.declared.Kind.TheVariants.{Missing, Constant, Stored}

@@ -7,7 +7,7 @@ use lib.ListN.{length}
 use Rattle.endian.specs.Loops.{up, tri}
 use Rattle.endian.proofs.Digits.{tri-lt}
 use Rattle.record.specs.declared.Record.{Record}
-use Rattle.record.specs.declared.Verdict.TheVariants.{Taken}
+use Rattle.record.specs.Answers.{Taken}
 use Rattle.checks.proofs.Records.{Fit}
 use Rattle.cube.specs.declared.Region.{Region}
 use Rattle.cube.specs.Places.{item_bytes, brick_of}

@@ -5,7 +5,7 @@
 ghost use Rattle.std.specs.Prelude.{◌≡◌, ◌+◌, ◌*◌, ◌≤◌, ◌<◌, length};
 ghost use Rattle.endian.specs.Loops.{tri};
 ghost use Rattle.endian.specs.Bytes.{peek, put};
-ghost use Rattle.record.specs.declared.Verdict.TheVariants.{Taken};
+ghost use Rattle.record.specs.Answers.{Taken};
 ghost use Rattle.cube.specs.Places.{item_bytes, kind_in, brick_of};
 ghost use Rattle.cube.specs.Calls.{Call, answer_of, cube_after};
 ghost use Rattle.table.specs.Entries.{offset_in};

@@ -12,8 +12,8 @@ use Rattle.endian.specs.Loops.{first}
 use Rattle.record.specs.Answers.{number_of, refused, refused_at}
 use Rattle.record.specs.Record.{record_of}
 use Rattle.record.specs.declared.Record.{Record}
-use Rattle.record.specs.declared.Verdict.{Verdict}
-use Rattle.record.specs.declared.Verdict.TheVariants.{Taken}
+use Rattle.record.specs.Answers.{Verdict}
+use Rattle.record.specs.Answers.{Taken}
 use Rattle.checks.specs.Fits.{breaks14_with}
 use Rattle.table.specs.Entries.{breaks12}
 use Rattle.table.proofs.Tables.{inside-passes}
@@ -30,6 +30,7 @@ use Rattle.cube.proofs.Regions.{write_passed}
 use Rattle.cube.proofs.Writes.{Kept}
 use Rattle.cube.proofs.Written.{written-bytes}
 use Rattle.cube.proofs.Calls.{taken-write}
+use Rattle.record.specs.declared.Refusal.TheVariants as refusal
 
 module _ (f h : List ℕ) (e : open_verdict f ≡ Taken) (K : Kept (record_in f) f h) where
   pub kept-opens : open_verdict h ≡ Taken
@@ -60,7 +61,7 @@ module _ (r : Record) (f : List ℕ) (v : Valid r f) where
       let last : Verdict = unless_touched r 12 (touches r g) (breaks12 r f) later in
       by_check (breaks14_with r (length f)) 14 _ (λ q. omega arith)
       (by_check (leb r.levels g.level) 15 _ (λ q. omega arith)
-      (by_check (not (in_extent r g)) 16 (cond (ltb room need) (refused 18) last) (λ q. omega arith)
+      (by_check (not (in_extent r g)) 16 (cond (ltb room need) (refused refusal.Room) last) (λ q. omega arith)
       (by_check (ltb room need) 18 last (λ q. omega arith)
       (λ q. h (ap number_of (sym (finds_none 12 (λ e. touches r g e && breaks12 r f e) (entries r) later none)) ∙ q)))))
     where

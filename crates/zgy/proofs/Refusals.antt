@@ -15,11 +15,12 @@ use Rattle.record.specs.Answers.{refused, refused_at, and_then, unless_found, ve
 use Rattle.record.specs.Header.{version_of, description_of, text_length_of, text_of}
 use Rattle.record.specs.Record.{size_of, bricks_of, brick_bytes_of, header_of}
 use Rattle.record.specs.declared.Description.{Description}
-use Rattle.record.specs.declared.Done.{Done}
+use Rattle.record.specs.Answers.{Done}
 use Rattle.record.specs.declared.Record.{Record}
 use Rattle.record.specs.declared.Refusal.{Refusal}
-use Rattle.record.specs.declared.Verdict.{Verdict}
-use Rattle.record.specs.declared.Verdict.TheVariants.{Taken, Refused}
+use Rattle.record.specs.Answers.{Verdict}
+use Rattle.record.specs.Answers.{Taken}
+use Rattle.record.specs.Answers.{refused}
 use Rattle.checks.specs.Checks.{breaks2, breaks3, breaks4, verdict5, breaks6, breaks7, breaks8, breaks9, breaks11, described}
 use Rattle.checks.specs.Fits.{breaks14, breaks14_with}
 use Rattle.table.specs.declared.Kind.{Kind}
@@ -44,6 +45,9 @@ use Rattle.subtiles.specs.Answers as Answers
 use Rattle.subtiles.specs.Answers.{bytes_in, breaks18, permute_answer, buffer_after}
 use Rattle.zgy.specs.Ledger.{Event, CallOn}
 use Rattle.zgy.specs.Refusals.{one_of, may_be, numbers_of, RefusedByNumber, RefusedLeaves, EveryCallRefusesByNumber}
+use Rattle.record.specs.declared.Refusal.TheVariants as refusal
+use Rattle.std.specs.Prelude.{Ok}
+use Rattle.std.specs.Prelude.{Err}
 
 -- a check, then the later ones
 by_check : (ks : List ℕ) (b : Bool) (v later : Verdict) → may_be ks v ≡ true → may_be ks later ≡ true → may_be ks (cond b v later) ≡ true
@@ -51,8 +55,8 @@ by_check ks true v later e l = e
 by_check ks false v later e l = l
 
 by_then : (ks : List ℕ) (v later : Verdict) → may_be ks v ≡ true → may_be ks later ≡ true → may_be ks (and_then v later) ≡ true
-by_then ks Taken later e l = l
-by_then ks (Refused x) later e l = e
+by_then ks (Ok u) later e l = l
+by_then ks (Err x) later e l = e
 
 by-found : (ks : List ℕ) (n : ℕ) (p : ℕ → Bool) (m : ℕ) (later : Verdict) → ((e : ℕ) → may_be ks (refused_at n e) ≡ true) → may_be ks later ≡ true
     → may_be ks (unless_found n (first p m) m later) ≡ true
@@ -67,8 +71,8 @@ may_take : (ks : List ℕ) → may_be ks Taken ≡ true
 unfolding may_be
 may_take ks = refl
 
-by_description : (ks : List ℕ) (d : Description) (t : ℕ) → may_be ks (refused 4) ≡ true → may_be ks (refused 5) ≡ true → may_be ks (refused 6) ≡ true → may_be ks (refused 7) ≡ true
-    → may_be ks (refused 8) ≡ true → may_be ks (refused 9) ≡ true → may_be ks (described d t) ≡ true
+by_description : (ks : List ℕ) (d : Description) (t : ℕ) → may_be ks (refused refusal.Side) ≡ true → may_be ks (refused refusal.Datatype) ≡ true → may_be ks (refused refusal.Size) ≡ true → may_be ks (refused refusal.Floats) ≡ true
+    → may_be ks (refused refusal.Bricks) ≡ true → may_be ks (refused refusal.TextLength) ≡ true → may_be ks (described d t) ≡ true
 unfolding described coding_of
 by_description ks d t a b c e g h =
     by_check ks (breaks4 d) _ _ a (by_then ks (verdict5 d) _ (typed (eqb d.datatype 0) (eqb d.datatype 2) (eqb d.datatype 6)) (by_check ks (breaks6 d) _ _ c (by_check ks (breaks7 d) _ _ e (by_check ks (breaks8 d) _ _ g (by_check ks (breaks9 t) _ _ h (may_take ks))))))
@@ -85,8 +89,8 @@ opening f =
     by_then ks (header_verdict f) (body_verdict r f)
     (by_check ks (ltb (length f) text_start) _ _ (may ks 1 0 refl) (by_check ks (breaks2 f) _ _ (may ks 2 0 refl) (by_check ks (breaks3 (version_of f)) _ _ (may ks 3 0 refl)
     (by_description ks (description_of f) (text_length_of f) (may ks 4 0 refl) (may ks 5 0 refl) (may ks 6 0 refl) (may ks 7 0 refl) (may ks 8 0 refl) (may ks 9 0 refl)))))
-    (by_then ks (length_verdict r f) (and_then (text_verdict r f) (entries_verdict r f)) (by_check ks (ltb (length f) (header_of r.description r.text)) (refused 10) Taken (may ks 10 0 refl) (may_take ks))
-    (by_then ks (text_verdict r f) (entries_verdict r f) (by_check ks (breaks11 (text_of f r.text)) (refused 11) Taken (may ks 11 0 refl) (may_take ks))
+    (by_then ks (length_verdict r f) (and_then (text_verdict r f) (entries_verdict r f)) (by_check ks (ltb (length f) (header_of r.description r.text)) (refused refusal.Headers) Taken (may ks 10 0 refl) (may_take ks))
+    (by_then ks (text_verdict r f) (entries_verdict r f) (by_check ks (breaks11 (text_of f r.text)) (refused refusal.Text) Taken (may ks 11 0 refl) (may_take ks))
     (by_then ks (range_verdict r f) (overlap_verdict r f)
     (by-found ks 12 (breaks12 r f) (bricks_of r.description) Taken (λ e. may ks 12 e refl) (may_take ks))
     (by-found ks 13 (breaks13 r f) (bricks_of r.description) Taken (λ e. may ks 13 e refl) (may_take ks)))))
@@ -98,7 +102,7 @@ opening f =
     r = record_in f
 
 region : (ks : List ℕ) (r : Record) (f : List ℕ) (g : Region) (room need : ℕ) (later : Verdict)
-    → may_be ks (refused 14) ≡ true → may_be ks (refused 15) ≡ true → may_be ks (refused 16) ≡ true → may_be ks (refused 18) ≡ true → ((e : ℕ) → may_be ks (refused_at 12 e) ≡ true)
+    → may_be ks (refused refusal.Record) ≡ true → may_be ks (refused refusal.Level) ≡ true → may_be ks (refused refusal.Index) ≡ true → may_be ks (refused refusal.Room) ≡ true → ((e : ℕ) → may_be ks (refused (refusal.Range e)) ≡ true)
     → may_be ks later ≡ true → may_be ks (region_verdict r f g room need later) ≡ true
 unfolding region_verdict
 region ks r f g room need later a b c d e l =
@@ -106,12 +110,12 @@ region ks r f g room need later a b c d e l =
 
 -- an answer's verdict is the one that made it
 verdict_done : (v : Verdict) (n : ℕ) → verdict_of (done_of v n) ≡ v
-verdict_done Taken n = refl
-verdict_done (Refused x) n = refl
+verdict_done (Ok u) n = refl
+verdict_done (Err x) n = refl
 
 verdict_found : (v : Verdict) (b : Brick) → found_verdict (found_of v b) ≡ v
-verdict_found Taken b = refl
-verdict_found (Refused x) b = refl
+verdict_found (Ok u) b = refl
+verdict_found (Err x) b = refl
 
 region-verdict : (r : Record) (f : List ℕ) (c : Call) → may_be (numbers_of c) (verdict_on r f c) ≡ true
 unfolding raw_verdict float_verdict write_verdict
@@ -122,7 +126,7 @@ region-verdict r f (float_read g b) = let ks : List ℕ = 14 ∷ 15 ∷ 16 ∷ 1
 region-verdict r f (write g d) = let ks : List ℕ = 14 ∷ 15 ∷ 16 ∷ 18 ∷ 12 ∷ 19 ∷ [] in
     region ks r f g _ _ _ (may ks 14 0 refl) (may ks 15 0 refl) (may ks 16 0 refl) (may ks 18 0 refl) (λ e. may ks 12 e refl) (by-found ks 19 (λ e. touches r g e && not_stored r f e) (bricks_of r.description) Taken (λ e. may ks 19 e refl) (may_take ks))
 
-kind : (ks : List ℕ) (r : Record) (f : List ℕ) (e : ℕ) → may_be ks (refused 14) ≡ true → may_be ks (refused 16) ≡ true → may_be ks (refused_at 12 e) ≡ true → may_be ks (kind_verdict r f e) ≡ true
+kind : (ks : List ℕ) (r : Record) (f : List ℕ) (e : ℕ) → may_be ks (refused refusal.Record) ≡ true → may_be ks (refused refusal.Index) ≡ true → may_be ks (refused (refusal.Range e)) ≡ true → may_be ks (kind_verdict r f e) ≡ true
 unfolding kind_verdict
 kind ks r f e a b c = by_check ks (breaks14_with r (length f)) _ _ a (by_check ks (leb r.bricks e) _ _ b (by_check ks (breaks12 r f e) _ _ c (may_take ks)))
 
@@ -133,8 +137,8 @@ filler : (r : Record) (k : Kind) (l : List ℕ) → may_be (14 ∷ 16 ∷ 12 ∷
 unfolding filler_verdict room_verdict value_verdict view
 filler r k l =
     by_then view (room_verdict r l) (value_verdict r k l)
-    (by_check view (ltb (length l) (brick_bytes_of r.description)) (refused 18) Taken (may view 18 0 refl) (may_take view))
-    (by_check view (not (filled_with (fill_of r k) l (item_bytes r) (brick_bytes_of r.description))) (refused 17) Taken (may view 17 0 refl) (may_take view))
+    (by_check view (ltb (length l) (brick_bytes_of r.description)) (refused refusal.Room) Taken (may view 18 0 refl) (may_take view))
+    (by_check view (not (filled_with (fill_of r k) l (item_bytes r) (brick_bytes_of r.description))) (refused refusal.Filler) Taken (may view 17 0 refl) (may_take view))
 
 shown : (r : Record) (k : Kind) (l : List ℕ) → may_be (14 ∷ 16 ∷ 12 ∷ 18 ∷ 17 ∷ []) (shown_verdict r k l) ≡ true
 shown r Missing l = filler r Missing l
@@ -160,7 +164,7 @@ making : (d : Description) (text : List ℕ) (fill : Fill) (n : ℕ) → may_be 
 unfolding make_verdict
 making d text fill n =
     let ks : List ℕ = 4 ∷ 5 ∷ 6 ∷ 7 ∷ 8 ∷ 9 ∷ 11 ∷ 18 ∷ [] in
-    by_then ks (described d (length text)) (cond (breaks11 text) (refused 11) (cond (ltb n (made_length d (length text) fill)) (refused 18) Taken))
+    by_then ks (described d (length text)) (cond (breaks11 text) (refused refusal.Text) (cond (ltb n (made_length d (length text) fill)) (refused refusal.Room) Taken))
     (by_description ks d (length text) (may ks 4 0 refl) (may ks 5 0 refl) (may ks 6 0 refl) (may ks 7 0 refl) (may ks 8 0 refl) (may ks 9 0 refl))
     (by_check ks (breaks11 text) _ _ (may ks 11 0 refl) (by_check ks (ltb n (made_length d (length text) fill)) _ _ (may ks 18 0 refl) (may_take ks)))
 
@@ -168,7 +172,7 @@ moving : (side : List ℕ) (w from into : ℕ) → may_be (20 ∷ 18 ∷ []) (ve
 unfolding permute_answer
 moving side w from into = go (breaks20 side w) (breaks18 (bytes_in side w) from into)
   where
-    go : (a b : Bool) → may_be (20 ∷ 18 ∷ []) (verdict_of (cond a (Answers.refused 20) (cond b (Answers.refused 18) (Done.Taken (bytes_in side w))))) ≡ true
+    go : (a b : Bool) → may_be (20 ∷ 18 ∷ []) (verdict_of (cond a (Answers.refused refusal.Subtiles) (cond b (Answers.refused refusal.Room) (Done.Taken (bytes_in side w))))) ≡ true
     go true b = may (20 ∷ 18 ∷ []) 20 0 refl
     go false true = may (20 ∷ 18 ∷ []) 18 0 refl
     go false false = may_take (20 ∷ 18 ∷ [])
@@ -189,14 +193,14 @@ numbers = record {
 
 -- ---- what a refused call leaves
 
-by_answer : (a : Done) (x : Refusal) (moved buffer : List ℕ) → verdict_of a ≡ Refused x → buffer_after a moved buffer ≡ buffer
+by_answer : (a : Done) (x : Refusal) (moved buffer : List ℕ) → verdict_of a ≡ refused x → buffer_after a moved buffer ≡ buffer
 by_answer (Done.Taken n) x moved buffer e = let z : ◌≡◌ {A = ℕ} 0 1 = cc in absurd (omega arith)
 by_answer (Done.Refused y) x moved buffer e = refl
 
-region-call : (r : Record) (f : List ℕ) (e : Event) (x : Refusal) → CallOn r f e → verdict_of e.answer ≡ Refused x → (e.cube ≡ f) × (e.buffers ≡ lent e.call)
+region-call : (r : Record) (f : List ℕ) (e : Event) (x : Refusal) → CallOn r f e → verdict_of e.answer ≡ refused x → (e.cube ≡ f) × (e.buffers ≡ lent e.call)
 unfolding answer_of
 region-call r f e x C q =
-    let v : verdict_on r f e.call ≡ Refused x = sym (verdict_done (verdict_on r f e.call) (moves r e.call)) ∙ ap verdict_of (sym C.answer-is) ∙ q in
+    let v : verdict_on r f e.call ≡ refused x = sym (verdict_done (verdict_on r f e.call) (moves r e.call)) ∙ ap verdict_of (sym C.answer-is) ∙ q in
     (C.cube-is ∙ refused-cube r f x e.call v, C.buffers_are ∙ refused-buffers r f x e.call v)
 
 pub leaves : RefusedLeaves

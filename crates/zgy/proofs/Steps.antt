@@ -8,8 +8,9 @@ use mathlib.Core.List.{List, [], ◌∷◌}
 use lib.Ieee.{Float}
 use lib.ListN.{length}
 use Rattle.record.specs.declared.Record.{Record}
-use Rattle.record.specs.declared.Verdict.{Verdict}
-use Rattle.record.specs.declared.Verdict.TheVariants.{Taken, Refused}
+use Rattle.record.specs.Answers.{Verdict}
+use Rattle.record.specs.Answers.{Taken}
+use Rattle.record.specs.Answers.{refused}
 use Rattle.cube.specs.declared.Region.{Region}
 use Rattle.cube.specs.Places.{Place, bytes, item_bytes, rows_of, raw_of, reading_of, Extent}
 use Rattle.cube.specs.Regions.{has, index, chunk, written, over}
@@ -21,6 +22,8 @@ use Rattle.cube.proofs.Rows.{AtAll, raw_same, float_same, valid_width}
 use Rattle.cube.proofs.Writes.{Kept, kept_refl, kept_valid, written-kept, written-rows}
 use Rattle.cube.proofs.Calls.{refused-answer, refused-cube, refused-buffers, taken-answer, taken-write, taken-raw, taken_float, raw-cube, float_cube, write-buffers}
 use Rattle.zgy.specs.Ledger.{Event, taken, CallOn, Ledger, into, leaves, feed, gives, promised}
+use Rattle.std.specs.Prelude.{Ok}
+use Rattle.std.specs.Prelude.{Err}
 
 module _ (r : Record) where
   -- the ledger agrees with the cube: each sample reads as its row does
@@ -80,16 +83,16 @@ module _ (r : Record) where
       step_agrees = go (verdict_on r f e.call) refl
         where
           go : (v : Verdict) → verdict_on r f e.call ≡ v → Agrees e.cube (λ p. leaves r (l p) (cond (taken e.answer) (into r e.call p) none))
-          go Taken q = rw (C.cube-is, C.answer-is, taken-answer r f e.call q) (taken_agrees e.call q)
-          go (Refused x) q = rw (C.cube-is, C.answer-is, refused-answer r f x e.call q, refused-cube r f x e.call q) A
+          go (Ok u) q = rw (C.cube-is, C.answer-is, taken-answer r f e.call q) (taken_agrees e.call q)
+          go (Err x) q = rw (C.cube-is, C.answer-is, refused-answer r f x e.call q, refused-cube r f x e.call q) A
 
       -- and the headers
       pub step_kept : Kept r f e.cube
       step_kept = go (verdict_on r f e.call) refl
         where
           go : (v : Verdict) → verdict_on r f e.call ≡ v → Kept r f e.cube
-          go Taken q = rw C.cube-is (taken-kept e.call q)
-          go (Refused x) q = rw (C.cube-is, refused-cube r f x e.call q) (kept_refl r f)
+          go (Ok u) q = rw C.cube-is (taken-kept e.call q)
+          go (Err x) q = rw (C.cube-is, refused-cube r f x e.call q) (kept_refl r f)
 
       -- and leaves in its buffers what the ledger gives
       pub step_gives : e.buffers ≡ promised r l e
@@ -97,5 +100,5 @@ module _ (r : Record) where
       step_gives = C.buffers_are ∙ go (verdict_on r f e.call) refl
         where
           go : (v : Verdict) → verdict_on r f e.call ≡ v → buffers_after r f e.call ≡ cond (taken e.answer) (gives r l e.call) (lent e.call)
-          go Taken q = rw (C.answer-is, taken-answer r f e.call q) (taken-gives e.call q)
-          go (Refused x) q = rw (C.answer-is, refused-answer r f x e.call q) (refused-buffers r f x e.call q)
+          go (Ok u) q = rw (C.answer-is, taken-answer r f e.call q) (taken-gives e.call q)
+          go (Err x) q = rw (C.answer-is, refused-answer r f x e.call q) (refused-buffers r f x e.call q)

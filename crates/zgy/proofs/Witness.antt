@@ -18,8 +18,6 @@ use Rattle.record.specs.Types.{coding_of, width_of, decode_of}
 use Rattle.record.specs.Header.{version_of, description_of, text_length_of}
 use Rattle.record.specs.Record.{levels_of, bricks_of, alphas_of, brick_bytes_of, table_of, header_of, grid_of, record_of}
 use Rattle.record.specs.declared.Record.{Record}
-use Rattle.record.specs.declared.Done.TheVariants.{Taken, Refused}
-use Rattle.record.specs.declared.Verdict.TheVariants as verdict
 use Rattle.checks.specs.Checks.{breaks2, breaks3, side_ok, breaks4, breaks5, size_ok, breaks6, breaks7, breaks8, breaks9, zeros, breaks11, described}
 use Rattle.checks.specs.Fits.{grid_fits, numbers_fit, record_fits, breaks14_with}
 use Rattle.checks.proofs.Described.{both}
@@ -51,7 +49,7 @@ cube =
     ++ replicate 8 0
     ++ cat 64 (λ i. i ∷ [])
 
-pub opens : open_verdict cube ≡ verdict.Taken
+pub opens : open_verdict cube ≡ Taken
 unfolding cube cat open_verdict header_verdict body_verdict length_verdict text_verdict entries_verdict range_verdict overlap_verdict record_in record_of version_of description_of text_length_of le breaks2 breaks3 side_ok breaks4 breaks5 size_ok breaks6 breaks7 breaks8 breaks9 zeros breaks11 described coding_of width_of finite range_ok bricks_of alphas_of brick_bytes_of table_of header_of halved first_from sum_to kind_of word_at kind_at out_of_range outside_at overlap overlaps_lower overlaps_at table_in breaks12 breaks13 of_bits lt
 opens = refl
 
@@ -99,7 +97,7 @@ made_calls r [] f = tt
 made_calls r (c ∷ cs) f = (record { answer-is = refl; cube-is = refl; buffers_are = refl }, made_calls r cs (cube_after r f c))
 
 -- the second write is refused 19 for entry 4 and leaves the first one's bytes; int8 -128 to 127 are scaled to -1280 to 1270; a missing brick reads as 0; two items of each buffer stay
-computed : (map (λ (e : Event). e.answer) (made (record_in cube) cube calls) ≡ Taken 2 ∷ Refused (record { number = 19; entry = 4 }) ∷ Taken 12 ∷ Taken 12 ∷ [])
+computed : (map (λ (e : Event). e.answer) (made (record_in cube) cube calls) ≡ Taken 2 ∷ refused (record { number = 19; entry = 4 }) ∷ Taken 12 ∷ Taken 12 ∷ [])
     × (map (λ (e : Event). e.buffers) (made (record_in cube) cube calls)
     ≡ (raw (7 ∷ 9 ∷ []) ∷ [])
     ∷ (raw (1 ∷ 2 ∷ 3 ∷ 4 ∷ []) ∷ [])

@@ -4,7 +4,7 @@ use Rattle.std.specs.Float.{nan}
 use Rattle.endian.specs.Bytes.{peek, le, lows}
 use Rattle.record.specs.Record.{table_of}
 use Rattle.record.specs.declared.Record.{Record}
-use Rattle.record.specs.declared.Verdict.TheVariants.{Taken}
+use Rattle.record.specs.Answers.{Taken}
 use Rattle.opening.specs.Opening.{open_verdict, record_in}
 use Rattle.opening.specs.Cube.{OpensExactly, RecordPasses}
 use Rattle.cube.specs.declared.Region.{Region}

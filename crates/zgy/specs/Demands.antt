@@ -4,7 +4,7 @@ use Rattle.endian.specs.Bytes.{Bytes}
 use Rattle.record.specs.Answers.{number_of}
 use Rattle.record.specs.Record.{bricks_of, header_of}
 use Rattle.record.specs.declared.Record.{Record}
-use Rattle.record.specs.declared.Verdict.TheVariants.{Taken}
+use Rattle.record.specs.Answers.{Taken}
 use Rattle.table.specs.declared.Kind.TheVariants.{Stored}
 use Rattle.opening.specs.Opening.{open_verdict, record_in}
 use Rattle.cube.specs.declared.Region.{Region}

@@ -2,11 +2,12 @@
 use Rattle.std.specs.Prelude.{Bool, true, false, cond, List, [], ◌∷◌, ◌≡◌, ℕ}
 use Rattle.std.proofs.Math.Option.{Option, none, some}
 use Rattle.record.specs.declared.Record.{Record}
-use Rattle.record.specs.declared.Done.{Done}
-use Rattle.record.specs.declared.Done.TheVariants.{Taken, Refused}
+use Rattle.record.specs.Answers.{Done}
 use Rattle.cube.specs.Places.{Place, Row, bytes, item_bytes, rows_of}
 use Rattle.cube.specs.Regions.{has, index, chunk, raw_rows, float_rows, over}
 use Rattle.cube.specs.Calls.{Call, raw_read, float_read, write, Buffer, raw, floats, lent, answer_of, cube_after, buffers_after}
+use Rattle.std.specs.Prelude.{Ok}
+use Rattle.std.specs.Prelude.{Err}
 
 -- a call that was made: its arguments, its answer, and the cube and the lent buffers after it
 pub record Event : Type 0 where
@@ -21,8 +22,8 @@ last_cube f [] = f
 last_cube f (e ∷ es) = last_cube e.cube es
 
 abbrev pub taken : Done → Bool
-taken (Taken n) = true
-taken (Refused x) = false
+taken ((Ok u) n) = true
+taken (Err x) = false
 
 module _ (r : Record) where
   -- a call on the cube f, as the calls' contracts say it

@@ -5,8 +5,9 @@ use Rattle.record.specs.Answers.{verdict_of}
 use Rattle.record.specs.declared.Description.{Description}
 use Rattle.record.specs.declared.Record.{Record}
 use Rattle.record.specs.declared.Refusal.{Refusal}
-use Rattle.record.specs.declared.Verdict.{Verdict}
-use Rattle.record.specs.declared.Verdict.TheVariants.{Taken, Refused}
+use Rattle.record.specs.Answers.{Verdict}
+use Rattle.record.specs.Answers.{Taken}
+use Rattle.record.specs.Answers.{refused}
 use Rattle.opening.specs.Opening.{opened_of}
 use Rattle.cube.specs.Calls.{Call, raw_read, float_read, write, lent, answer_of}
 use Rattle.bricks.specs.Bricks.{found_verdict, kind_answer, view_verdict}
@@ -16,6 +17,9 @@ use Rattle.making.specs.Making.{make_answer, make_buffer}
 use Rattle.making.specs.declared.Fill.{Fill}
 use Rattle.subtiles.specs.Answers.{permute_answer, buffer_after}
 use Rattle.zgy.specs.Ledger.{Event, CallOn}
+use Rattle.std.specs.Prelude.{Ok}
+use Rattle.std.specs.Prelude.{Err}
+use Rattle.record.specs.Answers.{number}
 
 -- n is one of the numbers
 abbrev pub one_of : ℕ → List ℕ → Bool
@@ -24,8 +28,8 @@ one_of n (k ∷ ks) = eqb n k || one_of n ks
 
 -- a refusal by one of these numbers, with a second number for 12, 13 and 19 alone
 unfoldable pub may_be : List ℕ → Verdict → Bool
-may_be numbers Taken = true
-may_be numbers (Refused x) = one_of x.number numbers && (one_of x.number (12 ∷ 13 ∷ 19 ∷ []) || eqb x.entry 0)
+may_be numbers (Ok u) = true
+may_be numbers (Err x) = one_of (number x) numbers && (one_of (number x) (12 ∷ 13 ∷ 19 ∷ []) || eqb (entry x) 0)
 
 -- the numbers that a call on a region may give, in the order of its checks
 abbrev pub numbers_of : Call → List ℕ
@@ -48,11 +52,11 @@ pub record RefusedByNumber : Type 0 where
 -- what a refused call leaves: opening, kind, view, position and strings are lent nothing that they could change
 pub record RefusedLeaves : Type 0 where
   -- a region call leaves the cube and its buffers
-  pub region-call : (r : Record) (f : List ℕ) (e : Event) (x : Refusal) → CallOn r f e → verdict_of e.answer ≡ Refused x → (e.cube ≡ f) × (e.buffers ≡ lent e.call)
+  pub region-call : (r : Record) (f : List ℕ) (e : Event) (x : Refusal) → CallOn r f e → verdict_of e.answer ≡ refused x → (e.cube ≡ f) × (e.buffers ≡ lent e.call)
   pub make : (d : Description) (text : List ℕ) (fill : Fill) (buffer : List ℕ) (x : Refusal)
-      → verdict_of (make_answer d text fill (length buffer)) ≡ Refused x → make_buffer d text fill buffer ≡ buffer
+      → verdict_of (make_answer d text fill (length buffer)) ≡ refused x → make_buffer d text fill buffer ≡ buffer
   pub permute : (side : List ℕ) (w from into : ℕ) (x : Refusal) (moved buffer : List ℕ)
-      → verdict_of (permute_answer side w from into) ≡ Refused x → buffer_after (permute_answer side w from into) moved buffer ≡ buffer
+      → verdict_of (permute_answer side w from into) ≡ refused x → buffer_after (permute_answer side w from into) moved buffer ≡ buffer
 
 -- demand 1
 pub record EveryCallRefusesByNumber : Type 0 where

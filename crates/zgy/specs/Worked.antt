@@ -10,13 +10,14 @@ use Rattle.record.specs.Header.{id_at}
 use Rattle.record.specs.Record.{side_of, extent_along, levels_of, bricks_of, alphas_of, brick_bytes_of, header_of, record_of}
 use Rattle.record.specs.declared.Description.{Description}
 use Rattle.record.specs.declared.Record.{Record}
-use Rattle.record.specs.declared.Verdict.TheVariants.{Taken}
+use Rattle.record.specs.Answers.{Taken}
 use Rattle.table.specs.Entries.{kind_of}
 use Rattle.table.specs.declared.Kind.TheVariants.{Constant}
 use Rattle.opening.specs.Opening.{open_verdict}
 use Rattle.cube.specs.Places.{Place, entry_in, brick_of, item_no, byte_of}
 use Rattle.subtiles.specs.Subtiles.{subtiled_of}
 use Rattle.making.specs.Making.{stored_id}
+use Rattle.record.specs.declared.Refusal.TheVariants as refusal
 
 -- a description with these sizes, this side in each direction and this type, all else zero
 abbrev pub cube_of : ℕ → ℕ → ℕ → ℕ → ℕ → Description
@@ -99,8 +100,8 @@ pub record WorkedNumbers : Type 0 where
   -- in a cube whose headers end at H = 2,431 and whose brick has 64 bytes: entry H - 1 is refused 12; entry H with the file ending at H + brick bytes is
   -- taken; one byte less is refused 12
   pub case9 : ((header_of (cube_of 3 4 2 4 0) 5 ∷ brick_bytes_of (cube_of 3 4 2 4 0) ∷ []) ≡ (2431 ∷ 64 ∷ []))
-      × (open_verdict (one_brick (2431 - 1) 64) ≡ refused_at 12 0)
+      × (open_verdict (one_brick (2431 - 1) 64) ≡ refused (refusal.Range 0))
       × (open_verdict (one_brick 2431 64) ≡ Taken)
-      × (open_verdict (one_brick 2431 (64 - 1)) ≡ refused_at 12 0)
+      × (open_verdict (one_brick 2431 (64 - 1)) ≡ refused (refusal.Range 0))
   -- the id 00 01 .. 0F is stored 03 02 01 00 05 04 07 06 08 .. 0F, and read back
   pub case10 : (stored_id id16 ≡ stored16) × (id_at stored16 0 ≡ id16)

@@ -4,7 +4,7 @@ use mathlib.Core.Path.{◌≡◌, ap, ◌∙◌}
 use Prim.Native.Nat.{ℕ}
 use Rattle.record.specs.Answers.{number_of, second_of}
 use Rattle.record.specs.declared.Description.{Description}
-use Rattle.record.specs.declared.Done.{Done}
+use Rattle.record.specs.Answers.{Done}
 use Rattle.record.specs.declared.Record.{Record}
 use Rattle.opening.specs.declared.Opened.{Opened}
 use Rattle.making.specs.declared.Fill.{Fill}

@@ -5,10 +5,9 @@ use Rattle.std.specs.Float.{binary64}
 use Rattle.std.specs.Float.Ieee.{of_bits}
 use Rattle.geometry.specs.Limits.{text_start}
 use Rattle.record.specs.Answers.{number_of, second_of, verdict_of, moved_of}
-use Rattle.record.specs.declared.Done.{Done}
+use Rattle.record.specs.Answers.{Done}
 use Rattle.record.specs.declared.Record.{Record}
-use Rattle.record.specs.declared.Verdict.{Verdict}
-use Rattle.record.specs.declared.Verdict.TheVariants as verdict
+use Rattle.record.specs.Answers.{Verdict}
 use Rattle.opening.specs.declared.Opened.{Opened}
 use Rattle.bricks.specs.Bricks.{View, of_file, of_filler, view_verdict, view_of}
 use Rattle.bricks.specs.declared.Brick.{Brick}
@@ -28,6 +27,9 @@ use Rattle.zgy_c.specs.declared.ZgyOpened.{ZgyOpened}
 use Rattle.zgy_c.specs.declared.ZgyPosition.{ZgyPosition}
 use Rattle.zgy_c.specs.declared.ZgyString.{ZgyString}
 use Rattle.zgy_c.specs.declared.ZgyView.{ZgyView}
+use Rattle.std.specs.Prelude.{Ok}
+use Rattle.std.specs.Prelude.{Err}
+use Rattle.record.specs.Answers.{number}
 
 -- how much a call moved, or made
 abbrev pub done_c : Done → ZgyDone
@@ -50,7 +52,7 @@ brick_c (brick.Stored o) = record { number = 0; entry = 0; kind = 2; value = of_
 -- what a brick is
 abbrev pub kind_c : Found → ZgyKind
 kind_c (found.Known b) = brick_c b
-kind_c (found.Refused x) = record { number = x.number; entry = x.entry; kind = 0; value = of_bits binary64 0; offset = 0 }
+kind_c (found.Refused x) = record { number = (number x); entry = (entry x); kind = 0; value = of_bits binary64 0; offset = 0 }
 
 -- an opening's verdict and record
 abbrev pub opened_c : Opened → ZgyOpened
@@ -63,8 +65,8 @@ part_c (of_filler n) = record { number = 0; entry = 0; source = 2; offset = 0; l
 
 -- the same by its verdict; source 0 is nowhere
 abbrev pub view_by : Verdict → View → ZgyView
-view_by verdict.Taken v = part_c v
-view_by (verdict.Refused x) v = record { number = x.number; entry = x.entry; source = 0; offset = 0; length = 0 }
+view_by (Ok u) v = part_c v
+view_by (Err x) v = record { number = (number x); entry = (entry x); source = 0; offset = 0; length = 0 }
 
 -- where the brick of an entry is shown
 abbrev pub view_c : Record → List ℕ → List ℕ → ℕ → ZgyView

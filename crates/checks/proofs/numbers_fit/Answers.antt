@@ -16,14 +16,14 @@ returns-then-shape-gt-BRICK_LIMIT c =
     ap (λ (s : Shape). s.bricks) c.shape_in-shape.ensures ∙ shape-bricks c.args.r.description in
     simp (lt-ltb brick_limit (bricks_of c.args.r.description) (omega (arith, bricks_are, c.if-shape-gt-BRICK_LIMIT.true)))
 
-pub header_end-header-requires : goal.header_end-header-requires
-header_end-header-requires c =
+pub header_end-requires : goal.header_end-requires
+header_end-requires c =
     let bricks_are : c.shape_in-shape.result.bricks ≡ bricks_of c.args.r.description =
     ap (λ (s : Shape). s.bricks) c.shape_in-shape.ensures ∙ shape-bricks c.args.r.description in
     let alphas_are : c.shape_in-shape.result.alphas ≡ alphas_of c.args.r.description =
     ap (λ (s : Shape). s.alphas) c.shape_in-shape.ensures ∙ shape-alphas c.args.r.description in
     let few : bricks_of c.args.r.description ≤ brick_limit = omega (arith, bricks_are, c.if-shape-gt-BRICK_LIMIT.false) in (
-      omega (arith, c.wide.ensures, c.requires.1),
+      omega (arith, c.from.ensures, c.requires.1),
       omega (arith, alphas_are, alphas-few c.args.r.description c.requires.0, few),
       omega (arith, bricks_are, few),
     )
@@ -40,11 +40,11 @@ returns c =
     let few : bricks_of c.args.r.description ≤ brick_limit = omega (arith, bricks_are, c.if-shape-gt-BRICK_LIMIT.false) in
     simp (
       le-ltb brick_limit _ few,
-      c.header_end-header.ensures,
-      c.wide.ensures.0,
-      c.wide-2.ensures.0,
-      c.wide-3.ensures.0,
-      c.wide-4.ensures.0,
+      c.header_end.ensures,
+      c.from.ensures,
+      c.from-2.ensures,
+      c.from-3.ensures,
+      c.from-4.ensures,
       levels-are,
       bricks_are,
       alphas_are,

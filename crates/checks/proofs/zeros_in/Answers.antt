@@ -1,32 +1,12 @@
-use Prim.Native.Nat.{◌+◌}
-use mathlib.Core.Path.{◌≡◌, ap, ◌∙◌}
-use native.Mathlib.Omega.{arith}
-use lib.ListN.{length}
-use Rattle.endian.specs.Loops.{sum_to}
-use Rattle.checks.specs.Checks.{zeros}
-use Rattle.checks.proofs.Texts.{zeros_to, zero_more, other-more}
-use Rattle.checks.proofs.zeros_in.Goals.{then-text-i-eq0, else-text-i-eq0}
+use mathlib.Core.Path.{◌∙◌}
+use Rattle.std.proofs.Common.{rules, tests, ◌==◌}
+use Rattle.std.proofs.lemmas.Iterator.{YieldsList-from_slice}
+use Rattle.std.proofs.lemmas.Iterator.Consumers.{count_from_yields_List, YieldsList-from_filter}
+use Rattle.checks.proofs.Texts.{count_zeros}
 use Rattle.checks.proofs.zeros_in.Goals as goal
 
-pub loop-i-init : goal.loop-i-init
-unfolding sum_to
-loop-i-init c = omega arith
-
-pub loop-i-preserved : goal.loop-i-preserved
-loop-i-preserved c =
-    elim c.if-text-i-eq0.branch [
-      | then-text-i-eq0 w ↦
-          let e : zeros_to c.args.text.now (c.loop-i.i + 1) ≡ zeros_to c.args.text.now c.loop-i.i + 1 =
-          zero_more c.args.text.now c.loop-i.i w.if-text-i-eq0.true in
-          omega arith
-      | else-text-i-eq0 w ↦
-          let e : zeros_to c.args.text.now (c.loop-i.i + 1) ≡ zeros_to c.args.text.now c.loop-i.i + 0 =
-          other-more c.args.text.now c.loop-i.i w.if-text-i-eq0.false in
-          omega arith
-    ]
-
 pub returns : goal.returns
-unfolding zeros
 returns c =
-    let e : c.loop-i.i ≡ length c.args.text.now = omega arith in
-    c.loop-i.invariant.1 ∙ ap (zeros_to c.args.text.now) e
+    count_from_yields_List _ _ c.count.ensures.ran
+    (YieldsList-from_filter _ (λ b. b == 0) (YieldsList-from_slice c.args.text.now cc) c.filter.ensures.closure (λ x r q k. search (rules, tests)))
+    ∙ count_zeros c.args.text.now

@@ -6,14 +6,14 @@ use Rattle.making.proofs.check_making.Goals as goal
 pub check_rest-requires : goal.check_rest-requires
 check_rest-requires c =
     let e = c.check_description-verdict.ensures ∙ rw c.text_length.ensures (clamped _ _) in
-    sym e ∙ c.in-Taken.is
+    sym e ∙ c.in-Ok.is
 
-pub returns-in-Refused : goal.returns-in-Refused
-returns-in-Refused c =
+pub returns-in-Err : goal.returns-in-Err
+returns-in-Err c =
     let e = c.check_description-verdict.ensures ∙ rw c.text_length.ensures (clamped _ _) in
-    making_refused _ _ _ _ _ _ e c.in-Refused.is
+    making_refused _ _ _ _ _ _ e c.in-Err.is
 
-pub returns-in-Taken : goal.returns-in-Taken
-returns-in-Taken c =
+pub returns-in-Ok : goal.returns-in-Ok
+returns-in-Ok c =
     let e = c.check_description-verdict.ensures ∙ rw c.text_length.ensures (clamped _ _) in
-    making_rest _ _ _ _ _ (sym e ∙ c.in-Taken.is) c.check_rest.ensures
+    making_rest _ _ _ _ _ (sym e ∙ c.in-Ok.is) c.check_rest.ensures

@@ -6,7 +6,7 @@ use Rattle.geometry.specs.Geometry.{header_end, shape_of}
 use Rattle.geometry.specs.declared.Shape.{Shape}
 use Rattle.record.specs.Record.{count_of, bricks_of, alphas_of, brick_bytes_of}
 use Rattle.record.specs.declared.Description.{Description}
-use Rattle.record.specs.declared.Verdict.TheVariants.{Taken}
+use Rattle.record.specs.Answers.{Taken}
 use Rattle.record.proofs.Laws.{shape-bricks, shape-alphas}
 use Rattle.checks.specs.Checks.{described}
 use Rattle.checks.proofs.Described.{described-all, described_sized}

@@ -2,7 +2,7 @@ use mathlib.Core.Bool.{false}
 use mathlib.Core.Path.{◌≡◌, sym, ap, ap₂, ◌∙◌}
 use native.Mathlib.Omega.{arith}
 use Rattle.record.specs.Header.{version_of, text_length_of}
-use Rattle.record.specs.declared.Verdict.TheVariants.{Taken}
+use Rattle.record.specs.Answers.{Taken}
 use Rattle.checks.specs.Checks.{breaks2, breaks3, described}
 use Rattle.checks.proofs.Described.{described-all, described_sized, described-few, described_text}
 use Rattle.opening.specs.Opening.{header_verdict, record_in}
@@ -29,31 +29,31 @@ returns-then-check3 c =
 
 pub record_of-r-requires : goal.record_of-r-requires
 record_of-r-requires c =
-    let passes : described c.description_at-d.result c.u32_at-text.result ≡ Taken = sym c.check_description-verdict.ensures ∙ c.in-Taken.is in
+    let passes : described c.description_at-d.result c.u32_at-text.result ≡ Taken = sym c.check_description-verdict.ensures ∙ c.in-Ok.is in
     let h = described-all _ _ passes in
     (described_sized _ _ h, omega (arith, described-few _ _ h), omega (arith, described_text _ _ h))
 
 pub check_body-requires : goal.check_body-requires
 check_body-requires c =
-    let passes : described c.description_at-d.result c.u32_at-text.result ≡ Taken = sym c.check_description-verdict.ensures ∙ c.in-Taken.is in
+    let passes : described c.description_at-d.result c.u32_at-text.result ≡ Taken = sym c.check_description-verdict.ensures ∙ c.in-Ok.is in
     rw c.record_of-r.ensures (made_derived _ _ _ _ passes)
 
-pub returns-in-Refused : goal.returns-in-Refused
+pub returns-in-Err : goal.returns-in-Err
 unfolding version_of text_length_of
-returns-in-Refused c =
+returns-in-Err c =
     let not2 : breaks2 c.args.file.now ≡ false = sym c.check2.ensures ∙ c.if-check2.false in
     let version-is : c.check3.result ≡ breaks3 (version_of c.args.file.now) = c.check3.ensures ∙ ap breaks3 c.u32_at-version.ensures in
     let header_is : header_verdict c.args.file.now ≡ c.check_description-verdict.result = header_rest _ c.if-file-lt-TEXT_START.false not2 (sym version-is ∙ c.if-check3.false)
     ∙ sym (c.check_description-verdict.ensures ∙ ap₂ described c.description_at-d.ensures c.u32_at-text.ensures) in
-    c.answer-in-Refused.ensures ∙ rw c.in-Refused.is (opened_early _ _ (header_is ∙ c.in-Refused.is))
+    c.answer-in-Err.ensures ∙ rw c.in-Err.is (opened_early _ _ (header_is ∙ c.in-Err.is))
 
-pub returns-in-Taken : goal.returns-in-Taken
+pub returns-in-Ok : goal.returns-in-Ok
 unfolding version_of text_length_of record_in
-returns-in-Taken c =
+returns-in-Ok c =
     let not2 : breaks2 c.args.file.now ≡ false = sym c.check2.ensures ∙ c.if-check2.false in
     let version-is : c.check3.result ≡ breaks3 (version_of c.args.file.now) = c.check3.ensures ∙ ap breaks3 c.u32_at-version.ensures in
     let header_is : header_verdict c.args.file.now ≡ c.check_description-verdict.result = header_rest _ c.if-file-lt-TEXT_START.false not2 (sym version-is ∙ c.if-check3.false)
     ∙ sym (c.check_description-verdict.ensures ∙ ap₂ described c.description_at-d.ensures c.u32_at-text.ensures) in
     let record_is : c.record_of-r.result ≡ record_in c.args.file.now = c.record_of-r.ensures ∙ rw (c.u32_at-version.ensures, c.description_at-d.ensures, c.u32_at-text.ensures) in
-    c.answer-in-Taken.ensures
-    ∙ rw c.check_body.ensures (opened_body _ _ (header_is ∙ c.in-Taken.is) record_is)
+    c.answer-in-Ok.ensures
+    ∙ rw c.check_body.ensures (opened_body _ _ (header_is ∙ c.in-Ok.is) record_is)

@@ -9,14 +9,14 @@ returns-then-file-gt-LONGEST c = rw (list_long _ c.if-file-gt-LONGEST.true) c.pu
 
 pub cube_lines-requires : goal.cube_lines-requires
 cube_lines-requires c =
-    let taken = sym (opened_verdict _ _ c.open-opened.ensures) ∙ c.in-Taken.is in
+    let taken = sym (opened_verdict _ _ c.open-opened.ensures) ∙ c.in-Ok.is in
     rw (opened_cube _ _ c.open-opened.ensures taken) (passed_derived _ (opened_passed _ taken))
 
-pub returns-in-Refused : goal.returns-in-Refused
-returns-in-Refused c =
-    rw (list_refused _ _ c.if-file-gt-LONGEST.false (sym (opened_verdict _ _ c.open-opened.ensures) ∙ c.in-Refused.is)) c.refused_line.ensures
+pub returns-in-Err : goal.returns-in-Err
+returns-in-Err c =
+    rw (list_refused _ _ c.if-file-gt-LONGEST.false (sym (opened_verdict _ _ c.open-opened.ensures) ∙ c.in-Err.is)) c.refused_line.ensures
 
-pub returns-in-Taken : goal.returns-in-Taken
-returns-in-Taken c =
-    let taken = sym (opened_verdict _ _ c.open-opened.ensures) ∙ c.in-Taken.is in
+pub returns-in-Ok : goal.returns-in-Ok
+returns-in-Ok c =
+    let taken = sym (opened_verdict _ _ c.open-opened.ensures) ∙ c.in-Ok.is in
     rw (list_taken _ c.if-file-gt-LONGEST.false taken, ← opened_cube _ _ c.open-opened.ensures taken) c.cube_lines.ensures

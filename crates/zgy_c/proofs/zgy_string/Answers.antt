@@ -16,5 +16,5 @@ returns-in-Item-clause-shown c = (handed _ _ _ _ _ _ (sym c.in-Item.is ∙ c.tur
 pub returns-in-Done-clause-shown : goal.returns-in-Done-clause-shown
 returns-in-Done-clause-shown c = (none _ _ _ _ (sym c.in-Done.is ∙ c.turn_of-turn.ensures) _ c.no_string.ensures refl).1
 
-pub returns-in-Refused-clause-shown : goal.returns-in-Refused-clause-shown
-returns-in-Refused-clause-shown c = (none _ _ _ _ (sym c.in-Refused.is ∙ c.turn_of-turn.ensures) _ c.no_string-in-Refused.ensures refl).1
+pub returns-in-Err-clause-shown : goal.returns-in-Err-clause-shown
+returns-in-Err-clause-shown c = (none _ _ _ _ (sym c.in-Err.is ∙ c.turn_of-turn.ensures) _ c.no_string-in-Err.ensures refl).1
