@@ -6,9 +6,10 @@ use Prim.Native.Nat.{ℕ, ◌≤◌, ◌<◌}
 use lib.ListN.{length}
 use borrow.Author.Tests.{lt-ltb, le-ltb}
 use Rattle.endian.specs.Loops.{first}
-use Rattle.record.specs.Answers.{refused, refused_at}
+use Rattle.record.specs.Answers.{answered}
+use Rattle.std.specs.Prelude.{Err}
 use Rattle.record.specs.Header.{text_of}
-use Rattle.record.specs.Record.{bricks_of, header_of, no_record}
+use Rattle.record.specs.Record.{bricks_of, header_of}
 use Rattle.record.specs.declared.Record.{Record}
 use Rattle.record.specs.declared.Refusal.{Refusal}
 use Rattle.record.specs.Answers.{Taken}
@@ -16,7 +17,7 @@ use Rattle.record.specs.Answers.{refused}
 use Rattle.checks.specs.Checks.{breaks11}
 use Rattle.table.specs.Entries.{breaks12, breaks13}
 use Rattle.opening.specs.Opening.{length_verdict, text_verdict, range_verdict, overlap_verdict, entries_verdict, body_verdict}
-use Rattle.opening.specs.Opening.{header_verdict, open_verdict, record_in, opened_by, opened_of}
+use Rattle.opening.specs.Opening.{header_verdict, open_verdict, record_in, opened_of}
 use Rattle.record.specs.declared.Refusal.TheVariants as refusal
 
 module _ (r : Record) (f : List ℕ) where
@@ -49,10 +50,10 @@ module _ (r : Record) (f : List ℕ) where
 
 -- the header's verdict decides where it refuses, else the body's does
 module _ (f : List ℕ) where
-  pub opened_early : (x : Refusal) → header_verdict f ≡ refused x → opened_by (refused x) no_record ≡ opened_of f
+  pub opened_early : (x : Refusal) → header_verdict f ≡ refused x → Err x ≡ opened_of f
   unfolding opened_of open_verdict
   opened_early x e = rw e
 
-  pub opened_body : (r : Record) → header_verdict f ≡ Taken → r ≡ record_in f → opened_by (body_verdict r f) r ≡ opened_of f
+  pub opened_body : (r : Record) → header_verdict f ≡ Taken → r ≡ record_in f → answered (body_verdict r f) r ≡ opened_of f
   unfolding opened_of open_verdict
   opened_body r e i = rw (e, i)

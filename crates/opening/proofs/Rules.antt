@@ -18,7 +18,8 @@ use Rattle.endian.proofs.Search.{first_before}
 use Rattle.endian.proofs.Bytes.{le_bound}
 use Rattle.floats.specs.Rules.{finite_bits, range_ok}
 use Rattle.floats.proofs.Patterns.{range-finite}
-use Rattle.record.specs.Answers.{refused_at, and_then, unless_found}
+use Rattle.record.specs.Answers.{and_then, unless_found}
+use Rattle.record.specs.declared.Refusal.{Refusal}
 use Rattle.record.specs.Types.{coding_of, no_type}
 use Rattle.record.specs.Header.{three_at, two_at, version_of, description_of, text_length_of, text_of}
 use Rattle.record.specs.Record.{side_of, size_of, bricks_of, header_of, record_of}
@@ -38,6 +39,7 @@ use Rattle.opening.specs.Cube.{Side, Finite, CodingRange, Cube, OpensExactly, Re
 use Rattle.opening.proofs.Header.{Head, head, text_before, made_derived}
 use Rattle.std.specs.Prelude.{Ok}
 use Rattle.std.specs.Prelude.{Err}
+use Rattle.record.specs.declared.Refusal.TheVariants as refusal
 
 -- a verdict whose first part and whose later part took the call
 pub both_taken : (v later : Verdict) → and_then v later ≡ Taken → (v ≡ Taken) × (later ≡ Taken)
@@ -45,15 +47,15 @@ both_taken (Ok u) later e = (refl, e)
 both_taken (Err x) later e = let z : ◌≡◌ {A = ℕ} 0 1 = cc in absurd (omega arith)
 
 -- no entry breaks the check, so the search for one finds none and the later checks took the call
-pub none_found : (n : ℕ) (p : ℕ → Bool) (m : ℕ) (later : Verdict) → unless_found n (first p m) m later ≡ Taken → ((e : ℕ) → e < m → p e ≡ false) × (later ≡ Taken)
-none_found n p m later h = let q = go (ltb (first p m) m) refl h in (λ e l. first_before p m e (omega (arith, q.0)), q.1)
+pub none_found : (check : ℕ → Refusal) (p : ℕ → Bool) (m : ℕ) (later : Verdict) → unless_found check (first p m) m later ≡ Taken → ((e : ℕ) → e < m → p e ≡ false) × (later ≡ Taken)
+none_found check p m later h = let q = go (ltb (first p m) m) refl h in (λ e l. first_before p m e (omega (arith, q.0)), q.1)
   where
-    go : (b : Bool) → ltb (first p m) m ≡ b → cond b (refused_at n (first p m)) later ≡ Taken → (m ≤ first p m) × (later ≡ Taken)
+    go : (b : Bool) → ltb (first p m) m ≡ b → cond b (refused (check (first p m))) later ≡ Taken → (m ≤ first p m) × (later ≡ Taken)
     go true q t = let z : ◌≡◌ {A = ℕ} 0 1 = cc in absurd (omega arith)
     go false q t = (ltb-false (first p m) m q, t)
 
-pub finds_none : (n : ℕ) (p : ℕ → Bool) (m : ℕ) (later : Verdict) → ((e : ℕ) → e < m → p e ≡ false) → unless_found n (first p m) m later ≡ later
-finds_none n p m later all = simp (le-ltb (first p m) m (omega (arith, missed p m m refl all)))
+pub finds_none : (check : ℕ → Refusal) (p : ℕ → Bool) (m : ℕ) (later : Verdict) → ((e : ℕ) → e < m → p e ≡ false) → unless_found check (first p m) m later ≡ later
+finds_none check p m later all = simp (le-ltb (first p m) m (omega (arith, missed p m m refl all)))
 
 -- all of checks 1 to 13, none of which applies
 pub record Passed (f : List ℕ) : Type 0 where
@@ -75,8 +77,8 @@ opened_passed f e =
       header = head f a.0;
       long = ltb-false _ _ (passed _ _ _ b.0).0;
       not11 = (passed _ _ _ c.0).0;
-      not12 = (none_found 12 (breaks12 r f) (bricks_of (description_of f)) Taken d.0).0;
-      not13 = (none_found 13 (breaks13 r f) (bricks_of (description_of f)) Taken d.1).0;
+      not12 = (none_found refusal.Range (breaks12 r f) (bricks_of (description_of f)) Taken d.0).0;
+      not13 = (none_found refusal.Overlap (breaks13 r f) (bricks_of (description_of f)) Taken d.1).0;
     }
 
 -- the record of such a file, and that the file holds its headers
@@ -89,8 +91,8 @@ unfolding open_verdict header_verdict body_verdict length_verdict text_verdict e
 passed_opened f p =
     let h = p.header in
     let n = bricks_of (description_of f) in
-    let no12 = finds_none 12 (breaks12 (record_in f) f) n Taken p.not12 in
-    let no13 = finds_none 13 (breaks13 (record_in f) f) n Taken p.not13 in
+    let no12 = finds_none refusal.Range (breaks12 (record_in f) f) n Taken p.not12 in
+    let no13 = finds_none refusal.Overlap (breaks13 (record_in f) f) n Taken p.not13 in
     simp (le-ltb _ _ h.long, h.not2, h.not3, described-is _ _ h.is-described, le-ltb _ _ p.long, p.not11, no12, no13)
 
 -- ---- each check and its rule

@@ -1,20 +1,15 @@
 -- Opening (FORMAT 10.4): checks 1 to 13 in their order, and the record.
-use Rattle.std.specs.Prelude.{cond, List, ℕ, ltb, length}
+use Rattle.std.specs.Prelude.{cond, List, ℕ, ltb, length, Result}
 use Rattle.endian.specs.Loops.{first}
 use Rattle.geometry.specs.Limits.{text_start}
-use Rattle.record.specs.Answers.{refused, and_then, unless_found}
+use Rattle.record.specs.Answers.{Verdict, Taken, refused, and_then, unless_found, answered}
 use Rattle.record.specs.Header.{version_of, description_of, text_length_of, text_of}
-use Rattle.record.specs.Record.{bricks_of, header_of, record_of, no_record}
+use Rattle.record.specs.Record.{bricks_of, header_of, record_of}
 use Rattle.record.specs.declared.Record.{Record}
-use Rattle.record.specs.Answers.{Verdict}
-use Rattle.record.specs.Answers.{Taken}
-use Rattle.record.specs.Answers.{refused}
+use Rattle.record.specs.declared.Refusal.{Refusal}
+use Rattle.record.specs.declared.Refusal.TheVariants as refusal
 use Rattle.checks.specs.Checks.{breaks2, breaks3, breaks11, described}
 use Rattle.table.specs.Entries.{breaks12, breaks13}
-use Rattle.opening.specs.declared.Opened.{Opened}
-use Rattle.record.specs.declared.Refusal.TheVariants as refusal
-use Rattle.std.specs.Prelude.{Ok}
-use Rattle.std.specs.Prelude.{Err}
 
 -- checks 1 to 9
 unfoldable pub header_verdict : List ℕ → Verdict
@@ -56,15 +51,6 @@ record_in f = record_of (version_of f) (description_of f) (text_length_of f) (le
 unfoldable pub open_verdict : List ℕ → Verdict
 open_verdict f = and_then (header_verdict f) (body_verdict (record_in f) f)
 
--- the record where the verdict is taken, none where it is refused
-abbrev pub record_if : Verdict → Record → Record
-record_if (Ok u) r = r
-record_if (Err x) r = no_record
-
--- the answer by the verdict
-abbrev pub opened_by : Verdict → Record → Opened
-opened_by v r = record { verdict = v; cube = record_if v r }
-
--- what opening answers
-unfoldable pub opened_of : List ℕ → Opened
-opened_of f = opened_by (open_verdict f) (record_in f)
+-- what opening answers: the record, or the refusal
+unfoldable pub opened_of : List ℕ → Result Record Refusal
+opened_of f = answered (open_verdict f) (record_in f)

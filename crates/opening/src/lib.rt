@@ -4,24 +4,17 @@
 ghost use Rattle.std.specs.Prelude.{◌≡◌, ◌≤◌, length};
 ghost use Rattle.record.specs.Record.{header_of};
 ghost use Rattle.table.specs.Entries.{Derived};
-ghost use Rattle.opening.specs.Opening.{entries_verdict, body_verdict, opened_by, opened_of};
+ghost use Rattle.opening.specs.Opening.{entries_verdict, body_verdict, opened_of};
 ghost use Rattle.opening.specs.Cube.{OpensExactly, RecordPasses};
 
 use checks::{check_description, check2, check3, check11};
 use endian::u32_at;
 use geometry::TEXT_START;
-use record::{Record, Verdict, description_at, no_record, record_of, refuse, refuse_at};
+use record::{Record, Refusal, description_at, record_of};
 use table::{lowest_out_of_range, lowest_overlap, table_in};
 
-// What opening answers. A verdict that refuses stands beside a record of zeros.
-#[derive(Clone, Copy)]
-pub struct Opened {
-    pub verdict: Verdict,
-    pub cube: Record,
-}
-
 // Checks 12 and 13, over all entries of the brick table.
-fn check_entries(file: &[u8], r: Record) -> Verdict
+fn check_entries(file: &[u8], r: Record) -> Result<(), Refusal>
     requires { Derived r × (header_of r.description r.text ≤ length file.now) }
     ensures { result ≡ entries_verdict r file.now }
 {
@@ -29,70 +22,51 @@ fn check_entries(file: &[u8], r: Record) -> Verdict
     let count = t.count;
     let outside = lowest_out_of_range(file, t);
     if outside < count {
-        return refuse_at(12, outside as u32);
+        return Err(Refusal::Range(outside as u32));
     }
     let overlapping = lowest_overlap(file, t);
     if overlapping < count {
-        return refuse_at(13, overlapping as u32);
+        return Err(Refusal::Overlap(overlapping as u32));
     }
-    Verdict::Taken
+    Ok(())
 }
 
 // Checks 10 to 13.
-fn check_body(file: &[u8], r: Record) -> Verdict
+fn check_body(file: &[u8], r: Record) -> Result<(), Refusal>
     requires { Derived r }
     ensures { result ≡ body_verdict r file.now }
 {
-    let header = r.header;
     let length = file.len() as u64;
-    if length < header {
-        return refuse(10);
+    if length < r.header {
+        return Err(Refusal::Headers);
     }
-    let text = r.text as usize;
-    let end = TEXT_START + text;
+    let end = TEXT_START + r.text as usize;
     if check11(&file[TEXT_START..end]) {
-        return refuse(11);
+        return Err(Refusal::Text);
     }
     check_entries(file, r)
 }
 
-// The answer by its verdict: a refusal stands beside a record of zeros.
-fn answer(verdict: Verdict, r: Record) -> Opened
-    ensures { result ≡ opened_by verdict r }
-{
-    match verdict {
-        Verdict::Refused(_) => Opened {
-            verdict,
-            cube: no_record(),
-        },
-        Verdict::Taken => Opened { verdict, cube: r },
-    }
-}
-
-// Opens a cube: the verdict by the first check that applies, and the record where it is taken.
-pub fn open(file: &[u8]) -> Opened
+// Opens a cube: its record, or the refusal by the first check that applies.
+pub fn open(file: &[u8]) -> Result<Record, Refusal>
     ensures { result ≡ opened_of file.now }
 {
     if file.len() < TEXT_START {
-        return answer(refuse(1), no_record());
+        return Err(Refusal::Short);
     }
     if check2(file) {
-        return answer(refuse(2), no_record());
+        return Err(Refusal::Magic);
     }
     let version = u32_at(file, 4);
     if check3(version) {
-        return answer(refuse(3), no_record());
+        return Err(Refusal::Version);
     }
     let d = description_at(file);
     let text = u32_at(file, 342);
-    let verdict = check_description(d, text);
-    match verdict {
-        Verdict::Refused(_) => answer(verdict, no_record()),
-        Verdict::Taken => {
-            let r = record_of(version, d, text, file.len() as u64);
-            answer(check_body(file, r), r)
-        }
-    }
+    check_description(d, text)?;
+    let r = record_of(version, d, text, file.len() as u64);
+    check_body(file, r)?;
+    Ok(r)
 }
 
 // A file is taken exactly when it is a cube by the rules and limits of FORMAT 9.

@@ -10,8 +10,8 @@ use Rattle.opening.proofs.Answers.{body_10, body_11, body_rest}
 use Rattle.opening.proofs.Header.{text_before}
 use Rattle.opening.proofs.check_body.Goals as goal
 
-pub returns-then-length-header : goal.returns-then-length-header
-returns-then-length-header c = c.refuse.ensures ∙ body_10 _ _ (rw c.requires.header_is at c.if-length-header.true)
+pub returns-then-length-r : goal.returns-then-length-r
+returns-then-length-r c = body_10 _ _ (rw c.requires.header_is at c.if-length-r.true)
 
 pub slice_bounds-check11-end : goal.slice_bounds-check11-end
 slice_bounds-check11-end c =
@@ -25,9 +25,9 @@ check11-requires c =
 pub returns-then-check11 : goal.returns-then-check11
 returns-then-check11 c =
     let judged : c.check11.result ≡ breaks11 (text_of c.args.file.now c.args.r.text) = c.check11.ensures ∙ ap breaks11 (text_part c.args.file.now c.args.r.text) in
-    c.refuse-then-check11.ensures ∙ body_11 _ _ (rw c.requires.header_is at c.if-length-header.false) (sym judged ∙ c.if-check11.true)
+    body_11 _ _ (rw c.requires.header_is at c.if-length-r.false) (sym judged ∙ c.if-check11.true)
 
 pub returns : goal.returns
 returns c =
     let judged : c.check11.result ≡ breaks11 (text_of c.args.file.now c.args.r.text) = c.check11.ensures ∙ ap breaks11 (text_part c.args.file.now c.args.r.text) in
-    c.check_entries.ensures ∙ body_rest _ _ (rw c.requires.header_is at c.if-length-header.false) (sym judged ∙ c.if-check11.false)
+    c.check_entries.ensures ∙ body_rest _ _ (rw c.requires.header_is at c.if-length-r.false) (sym judged ∙ c.if-check11.false)

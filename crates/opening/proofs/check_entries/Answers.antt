@@ -13,8 +13,8 @@ lowest_out_of_range-outside-requires c =
     let searched : Readable c.table_in-t.result (length c.args.file.now) = readable _ _ c.table_in-t.ensures c.requires.0 _ c.requires.1 in
     searched
 
-pub overflow_cast-outside : goal.overflow_cast-outside
-overflow_cast-outside c =
+pub overflow_cast-result : goal.overflow_cast-result
+overflow_cast-result c =
     let searched : Readable c.table_in-t.result (length c.args.file.now) = readable _ _ c.table_in-t.ensures c.requires.0 _ c.requires.1 in
     record { fits = omega (arith, searched.few) }
 
@@ -22,7 +22,7 @@ pub returns-then-outside-count : goal.returns-then-outside-count
 returns-then-outside-count c =
     let count : c.table_in-t.result.count ≡ bricks_of c.args.r.description = count-is _ _ c.table_in-t.ensures in
     let o = c.lowest_out_of_range-outside.ensures ∙ lowest_12 _ _ c.table_in-t.ensures _ in
-    c.refuse_at.ensures ∙ found_12 _ _ _ o (rw count at c.if-outside-count.true)
+    found_12 _ _ _ o (rw count at c.if-outside-count.true)
 
 pub lowest_overlap-overlapping-requires : goal.lowest_overlap-overlapping-requires
 lowest_overlap-overlapping-requires c =
@@ -33,8 +33,8 @@ lowest_overlap-overlapping-requires c =
       count_value = omega (arith, c.lowest_out_of_range-outside.ensures);
     }
 
-pub overflow_cast-overlapping : goal.overflow_cast-overlapping
-overflow_cast-overlapping c =
+pub overflow_cast-result-then-overlapping-count : goal.overflow_cast-result-then-overlapping-count
+overflow_cast-result-then-overlapping-count c =
     let searched : Readable c.table_in-t.result (length c.args.file.now) = readable _ _ c.table_in-t.ensures c.requires.0 _ c.requires.1 in
     record { fits = omega (arith, searched.few) }
 
@@ -43,7 +43,7 @@ returns-then-overlapping-count c =
     let count : c.table_in-t.result.count ≡ bricks_of c.args.r.description = count-is _ _ c.table_in-t.ensures in
     let o = c.lowest_out_of_range-outside.ensures ∙ lowest_12 _ _ c.table_in-t.ensures _ in
     let p = c.lowest_overlap-overlapping.ensures ∙ lowest_13 _ _ c.table_in-t.ensures _ in
-    c.refuse_at-then-overlapping-count.ensures ∙ found_13 _ _ _ o (rw count at c.if-outside-count.false) _ p (rw count at c.if-overlapping-count.true)
+    found_13 _ _ _ o (rw count at c.if-outside-count.false) _ p (rw count at c.if-overlapping-count.true)
 
 pub returns : goal.returns
 returns c =

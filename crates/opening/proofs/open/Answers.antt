@@ -1,8 +1,9 @@
 use mathlib.Core.Bool.{false}
 use mathlib.Core.Path.{◌≡◌, sym, ap, ap₂, ◌∙◌}
 use native.Mathlib.Omega.{arith}
+use Rattle.std.proofs.lemmas.Result.{err_from_is_err_and}
 use Rattle.record.specs.Header.{version_of, text_length_of}
-use Rattle.record.specs.Answers.{Taken}
+use Rattle.record.specs.Answers.{Taken, answered}
 use Rattle.checks.specs.Checks.{breaks2, breaks3, described}
 use Rattle.checks.proofs.Described.{described-all, described_sized, described-few, described_text}
 use Rattle.opening.specs.Opening.{header_verdict, record_in}
@@ -11,49 +12,60 @@ use Rattle.opening.proofs.Answers.{opened_early, opened_body}
 use Rattle.opening.proofs.open.Goals as goal
 
 pub returns-then-file-lt-TEXT_START : goal.returns-then-file-lt-TEXT_START
-returns-then-file-lt-TEXT_START c = c.answer.ensures ∙ rw c.refuse.ensures (opened_early _ _ (header_1 _ c.if-file-lt-TEXT_START.true))
+returns-then-file-lt-TEXT_START c = opened_early _ _ (header_1 _ c.if-file-lt-TEXT_START.true)
 
 pub returns-then-check2 : goal.returns-then-check2
-returns-then-check2 c =
-    c.answer-then-check2.ensures
-    ∙ rw c.refuse-then-check2.ensures (opened_early _ _ (header_2 _ c.if-file-lt-TEXT_START.false (sym c.check2.ensures ∙ c.if-check2.true)))
+returns-then-check2 c = opened_early _ _ (header_2 _ c.if-file-lt-TEXT_START.false (sym c.check2.ensures ∙ c.if-check2.true))
 
 pub returns-then-check3 : goal.returns-then-check3
 unfolding version_of
 returns-then-check3 c =
     let not2 : breaks2 c.args.file.now ≡ false = sym c.check2.ensures ∙ c.if-check2.false in
     let version-is : c.check3.result ≡ breaks3 (version_of c.args.file.now) = c.check3.ensures ∙ ap breaks3 c.u32_at-version.ensures in
-    c.answer-then-check3.ensures
-    ∙ rw c.refuse-then-check3.ensures
-    (opened_early _ _ (header_3 _ c.if-file-lt-TEXT_START.false not2 (sym version-is ∙ c.if-check3.true)))
+    opened_early _ _ (header_3 _ c.if-file-lt-TEXT_START.false not2 (sym version-is ∙ c.if-check3.true))
 
 pub record_of-r-requires : goal.record_of-r-requires
 record_of-r-requires c =
-    let passes : described c.description_at-d.result c.u32_at-text.result ≡ Taken = sym c.check_description-verdict.ensures ∙ c.in-Ok.is in
+    let passes : described c.description_at-d.result c.u32_at-text.result ≡ Taken = sym c.check_description.ensures ∙ c.in_ok-check_description.was in
     let h = described-all _ _ passes in
     (described_sized _ _ h, omega (arith, described-few _ _ h), omega (arith, described_text _ _ h))
 
 pub check_body-requires : goal.check_body-requires
 check_body-requires c =
-    let passes : described c.description_at-d.result c.u32_at-text.result ≡ Taken = sym c.check_description-verdict.ensures ∙ c.in-Ok.is in
+    let passes : described c.description_at-d.result c.u32_at-text.result ≡ Taken = sym c.check_description.ensures ∙ c.in_ok-check_description.was in
     rw c.record_of-r.ensures (made_derived _ _ _ _ passes)
 
-pub returns-in-Err : goal.returns-in-Err
+pub returns-in_err-check_description : goal.returns-in_err-check_description
 unfolding version_of text_length_of
-returns-in-Err c =
+returns-in_err-check_description c =
     let not2 : breaks2 c.args.file.now ≡ false = sym c.check2.ensures ∙ c.if-check2.false in
     let version-is : c.check3.result ≡ breaks3 (version_of c.args.file.now) = c.check3.ensures ∙ ap breaks3 c.u32_at-version.ensures in
-    let header_is : header_verdict c.args.file.now ≡ c.check_description-verdict.result = header_rest _ c.if-file-lt-TEXT_START.false not2 (sym version-is ∙ c.if-check3.false)
-    ∙ sym (c.check_description-verdict.ensures ∙ ap₂ described c.description_at-d.ensures c.u32_at-text.ensures) in
-    c.answer-in-Err.ensures ∙ rw c.in-Err.is (opened_early _ _ (header_is ∙ c.in-Err.is))
+    let header_is : header_verdict c.args.file.now ≡ c.check_description.result = header_rest _ c.if-file-lt-TEXT_START.false not2 (sym version-is ∙ c.if-check3.false)
+    ∙ sym (c.check_description.ensures ∙ ap₂ described c.description_at-d.ensures c.u32_at-text.ensures) in
+    let p = err_from_is_err_and c.from_residual.result c.from_residual.ensures.1 in
+    rw (p.1, p.2) (opened_early _ _ (header_is ∙ c.in_err-check_description.was))
 
-pub returns-in-Ok : goal.returns-in-Ok
+-- the record that the body is judged with, behind a header that is taken
+pub returns-in_err-check_body : goal.returns-in_err-check_body
 unfolding version_of text_length_of record_in
-returns-in-Ok c =
+returns-in_err-check_body c =
     let not2 : breaks2 c.args.file.now ≡ false = sym c.check2.ensures ∙ c.if-check2.false in
     let version-is : c.check3.result ≡ breaks3 (version_of c.args.file.now) = c.check3.ensures ∙ ap breaks3 c.u32_at-version.ensures in
-    let header_is : header_verdict c.args.file.now ≡ c.check_description-verdict.result = header_rest _ c.if-file-lt-TEXT_START.false not2 (sym version-is ∙ c.if-check3.false)
-    ∙ sym (c.check_description-verdict.ensures ∙ ap₂ described c.description_at-d.ensures c.u32_at-text.ensures) in
+    let header_is : header_verdict c.args.file.now ≡ c.check_description.result = header_rest _ c.if-file-lt-TEXT_START.false not2 (sym version-is ∙ c.if-check3.false)
+    ∙ sym (c.check_description.ensures ∙ ap₂ described c.description_at-d.ensures c.u32_at-text.ensures) in
     let record_is : c.record_of-r.result ≡ record_in c.args.file.now = c.record_of-r.ensures ∙ rw (c.u32_at-version.ensures, c.description_at-d.ensures, c.u32_at-text.ensures) in
-    c.answer-in-Ok.ensures
-    ∙ rw c.check_body.ensures (opened_body _ _ (header_is ∙ c.in-Ok.is) record_is)
+    let p = err_from_is_err_and c.from_residual-in_err-check_body.result c.from_residual-in_err-check_body.ensures.1 in
+    rw (p.1, p.2)
+    (ap (λ v. answered v c.record_of-r.result) (sym c.in_err-check_body.was ∙ c.check_body.ensures)
+    ∙ opened_body _ _ (header_is ∙ c.in_ok-check_description.was) record_is)
+
+pub returns : goal.returns
+unfolding version_of text_length_of record_in
+returns c =
+    let not2 : breaks2 c.args.file.now ≡ false = sym c.check2.ensures ∙ c.if-check2.false in
+    let version-is : c.check3.result ≡ breaks3 (version_of c.args.file.now) = c.check3.ensures ∙ ap breaks3 c.u32_at-version.ensures in
+    let header_is : header_verdict c.args.file.now ≡ c.check_description.result = header_rest _ c.if-file-lt-TEXT_START.false not2 (sym version-is ∙ c.if-check3.false)
+    ∙ sym (c.check_description.ensures ∙ ap₂ described c.description_at-d.ensures c.u32_at-text.ensures) in
+    let record_is : c.record_of-r.result ≡ record_in c.args.file.now = c.record_of-r.ensures ∙ rw (c.u32_at-version.ensures, c.description_at-d.ensures, c.u32_at-text.ensures) in
+    ap (λ v. answered v c.record_of-r.result) (sym c.in_ok-check_body.was ∙ c.check_body.ensures)
+    ∙ opened_body _ _ (header_is ∙ c.in_ok-check_description.was) record_is
