@@ -3,7 +3,7 @@ use Prim.Native.Nat.{ℕ}
 use mathlib.Core.Path.{◌≡◌, refl, ap}
 use mathlib.Core.List.{List, [], ◌∷◌}
 use lib.Ieee.{Float}
-use Rattle.record.specs.Answers.{done_of}
+use Rattle.record.specs.Answers.{answered}
 use Rattle.record.specs.declared.Record.{Record}
 use Rattle.record.specs.declared.Refusal.{Refusal}
 use Rattle.record.specs.Answers.{Verdict}
@@ -22,7 +22,7 @@ module _ (r : Record) (f : List ℕ) where
   module _ (x : Refusal) where
     pub refused-answer : (c : Call) → verdict_on r f c ≡ refused x → answer_of r f c ≡ Err x
     unfolding answer_of
-    refused-answer c e = ap (λ (v : Verdict). done_of v (moves r c)) e
+    refused-answer c e = ap (λ (v : Verdict). answered v (moves r c)) e
 
     pub refused-cube : (c : Call) → verdict_on r f c ≡ refused x → cube_after r f c ≡ f
     unfolding cube_after
@@ -40,7 +40,7 @@ module _ (r : Record) (f : List ℕ) where
 
   pub taken-answer : (c : Call) → verdict_on r f c ≡ Taken → answer_of r f c ≡ Ok (moves r c)
   unfolding answer_of
-  taken-answer c e = ap (λ (v : Verdict). done_of v (moves r c)) e
+  taken-answer c e = ap (λ (v : Verdict). answered v (moves r c)) e
 
   pub taken-write : (g : Region) (d : List ℕ) → verdict_on r f (write g d) ≡ Taken → cube_after r f (write g d) ≡ written r g d f
   unfolding cube_after

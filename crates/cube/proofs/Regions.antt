@@ -69,7 +69,7 @@ module _ (r : Record) (f : List ℕ) (g : Region) (room need : ℕ) (later : Ver
         unfolding region_verdict
         stop18 h = simp (fits, lt-leb _ _ level, inside, lt-ltb _ _ h)
 
-        pub go_on : need ≤ room → unless_touched r 12 (touches r g) (breaks12 r f) later ≡ region_verdict r f g room need later
+        pub go_on : need ≤ room → unless_touched r refusal.Range (touches r g) (breaks12 r f) later ≡ region_verdict r f g room need later
         unfolding region_verdict
         go_on h = simp (fits, lt-leb _ _ level, inside, le-ltb _ _ h)
 
@@ -145,11 +145,11 @@ module _ (r : Record) where
   pub region_passed : (f : List ℕ) (g : Region) (room need : ℕ) (later : Verdict) → region_verdict r f g room need later ≡ Taken → Passed f g room need × (later ≡ Taken)
   unfolding region_verdict
   region_passed f g room need later e =
-      let a = passed (breaks14_with r (length f)) 14 _ e in
-      let b = passed (leb r.levels g.level) 15 _ a.1 in
-      let c = passed (not (in_extent r g)) 16 _ b.1 in
-      let d = passed (ltb room need) 18 _ c.1 in
-      let u = none_found 12 (λ e. touches r g e && breaks12 r f e) (entries r) later d.1 in
+      let a = passed (breaks14_with r (length f)) _ _ e in
+      let b = passed (leb r.levels g.level) _ _ a.1 in
+      let c = passed (not (in_extent r g)) _ _ b.1 in
+      let d = passed (ltb room need) _ _ c.1 in
+      let u = none_found refusal.Range (λ e. touches r g e && breaks12 r f e) (entries r) later d.1 in
       let l = with_fit r (length f) a.0 in (
         record {
           lent = record { fit = l.0; same_length = l.1 };
@@ -199,5 +199,5 @@ module _ (r : Record) where
   pub write_passed : (f : List ℕ) (g : Region) (n : ℕ) → write_verdict r f g n ≡ Taken → Passed f g n (size_of g * item_bytes r) × Covered f g
   unfolding write_verdict
   write_passed f g n e =
-      let h = region_passed f g n (size_of g * item_bytes r) (unless_touched r 19 (touches r g) (not_stored r f) Taken) e in
-      (h.0, covered f g n (size_of g * item_bytes r) h.0 (none_found 19 (λ e. touches r g e && not_stored r f e) (entries r) Taken h.1).0)
+      let h = region_passed f g n (size_of g * item_bytes r) (unless_touched r refusal.NotStored (touches r g) (not_stored r f) Taken) e in
+      (h.0, covered f g n (size_of g * item_bytes r) h.0 (none_found refusal.NotStored (λ e. touches r g e && not_stored r f e) (entries r) Taken h.1).0)

@@ -1,6 +1,6 @@
 -- Calls on a cube (FORMAT 10.7 to 10.9): their answers, and what the cube and each lent buffer hold after them. r is the record, f the cube's bytes.
 use Rattle.std.specs.Prelude.{List, [], ◌∷◌, ℕ, ◌*◌, Float, length}
-use Rattle.record.specs.Answers.{done_of}
+use Rattle.record.specs.Answers.{answered}
 use Rattle.record.specs.Answers.{Done}
 use Rattle.record.specs.declared.Record.{Record}
 use Rattle.record.specs.Answers.{Verdict}
@@ -40,7 +40,7 @@ module _ (r : Record) where
 
   -- what a call answers
   unfoldable pub answer_of : List ℕ → Call → Done
-  answer_of f c = done_of (verdict_on f c) (moves c)
+  answer_of f c = answered (verdict_on f c) (moves c)
 
   -- the cube after it
   unfoldable pub cube_after : List ℕ → Call → List ℕ

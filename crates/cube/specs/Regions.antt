@@ -14,6 +14,7 @@ use Rattle.table.specs.declared.Kind.{Kind}
 use Rattle.table.specs.declared.Kind.TheVariants.{Missing, Constant, Stored}
 use Rattle.cube.specs.declared.Region.{Region}
 use Rattle.cube.specs.Places.{Place, Row, item_bytes, kind_in, brick_of, byte_of, raw_of, float_of}
+use Rattle.record.specs.declared.Refusal.{Refusal}
 use Rattle.record.specs.declared.Refusal.TheVariants as refusal
 use Rattle.std.specs.Prelude.{Ok}
 use Rattle.std.specs.Prelude.{Err}
@@ -83,9 +84,9 @@ module _ (r : Record) where
   unfoldable pub touches : Region → ℕ → Bool
   touches g e = any (λ t. eqb (brick_of r (place_at g t)) e) (size_of g)
 
-  -- refused by check n with the lowest entry that is touched and bad; where there is none, the later checks
-  abbrev pub unless_touched : ℕ → (ℕ → Bool) → (ℕ → Bool) → Verdict → Verdict
-  unless_touched n touched bad later = unless_found n (first (λ e. touched e && bad e) (bricks_of r.description)) (bricks_of r.description) later
+  -- refused by this check with the lowest entry that is touched and bad; where there is none, the later checks
+  abbrev pub unless_touched : (ℕ → Refusal) → (ℕ → Bool) → (ℕ → Bool) → Verdict → Verdict
+  unless_touched check touched bad later = unless_found check (first (λ e. touched e && bad e) (bricks_of r.description)) (bricks_of r.description) later
 
   -- ---- the checks
 

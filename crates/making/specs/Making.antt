@@ -6,7 +6,7 @@ use Rattle.endian.specs.Loops.{cat}
 use Rattle.endian.specs.Bytes.{lows}
 use Rattle.geometry.specs.Geometry.{ceil_div}
 use Rattle.floats.specs.Rules.{survey_size}
-use Rattle.record.specs.Answers.{refused, and_then, done_of}
+use Rattle.record.specs.Answers.{refused, and_then, answered}
 use Rattle.record.specs.Record.{size_of, bricks_of, alphas_of, brick_bytes_of, header_of}
 use Rattle.record.specs.declared.Description.{Description}
 use Rattle.record.specs.Answers.{Done}
@@ -111,7 +111,7 @@ make_verdict d text fill room =
 
 -- what make answers: the length of the file, or a refusal
 unfoldable pub make_answer : Description → List ℕ → Fill → ℕ → Done
-make_answer d text fill room = done_of (make_verdict d text fill room) (made_length d (length text) fill)
+make_answer d text fill room = answered (make_verdict d text fill room) (made_length d (length text) fill)
 
 -- the buffer after it: the file and what stood after it; as it was where refused
 abbrev pub buffer_if : Verdict → List ℕ → List ℕ → List ℕ

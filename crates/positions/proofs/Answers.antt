@@ -18,9 +18,10 @@ use Rattle.checks.specs.Checks.{all3}
 use Rattle.checks.specs.Fits.{same3, grid_fits, breaks14}
 use Rattle.checks.proofs.Described.{both, all3-each, each_of, described_sized}
 use Rattle.checks.proofs.Records.{alone_fit, Fit, finites}
-use Rattle.positions.specs.declared.Located.{Located}
-use Rattle.positions.specs.declared.Located.TheVariants.{At}
-use Rattle.positions.specs.Positions.{orig_in, inc_in, refused_by, position_answer, PositionNear}
+use Rattle.std.specs.Prelude.{Result, Ok, Err}
+use Rattle.record.specs.declared.Refusal.{Refusal}
+use Rattle.record.specs.declared.Refusal.TheVariants as refusal
+use Rattle.positions.specs.Positions.{orig_in, inc_in, position_answer, PositionNear}
 
 -- ---- floats with the bits of finite fields are finite
 same-finite : (x : Float) (b : ℕ) → same_bits x b ≡ true → finite_bits b ≡ true → T (finite x)
@@ -56,26 +57,26 @@ module _ (r : Record) (e : breaks14 r ≡ false) where
 
 -- ---- the answer by its cases, and its promise
 module _ (r : Record) (k i : ℕ) where
-  abbrev Promised : Located → Type 0
+  abbrev Promised : Result Float Refusal → Type 0
   Promised a = (a ≡ position_answer r k i) × PositionNear r k i a
 
-  refused-is : (a : Located) (n : ℕ) → a ≡ refused_by n → position_answer r k i ≡ refused_by n → Promised a
+  refused-is : (x : Refusal) → position_answer r k i ≡ Err x → Promised (Err x)
   unfolding PositionNear
-  refused-is a n v e = (v ∙ sym e, λ x t. let z : ◌≡◌ {A = ℕ} 0 1 = cc in absurd (omega arith))
+  refused-is x e = (sym e, λ y t. let z : ◌≡◌ {A = ℕ} 0 1 = cc in absurd (omega arith))
 
-  pub breaks_14 : (a : Located) → a ≡ refused_by 14 → breaks14 r ≡ true → Promised a
+  pub breaks_14 : breaks14 r ≡ true → Promised (Err refusal.Record)
   unfolding position_answer
-  breaks_14 a v e = refused-is a 14 v (simp e)
+  breaks_14 e = refused-is _ (simp e)
 
-  pub no_dimension : (a : Located) → a ≡ refused_by 16 → breaks14 r ≡ false → 3 ≤ k → Promised a
+  pub no_dimension : breaks14 r ≡ false → 3 ≤ k → Promised (Err refusal.Index)
   unfolding position_answer
-  no_dimension a v e h = refused-is a 16 v (simp (e, le-leb 3 k h))
+  no_dimension e h = refused-is _ (simp (e, le-leb 3 k h))
 
-  pub no_index : (a : Located) → a ≡ refused_by 16 → breaks14 r ≡ false → k < 3 → size_of r.description k ≤ i → Promised a
+  pub no_index : breaks14 r ≡ false → k < 3 → size_of r.description k ≤ i → Promised (Err refusal.Index)
   unfolding position_answer
-  no_index a v e h g = refused-is a 16 v (simp (e, lt-leb 3 k h, le-leb (size_of r.description k) i g))
+  no_index e h g = refused-is _ (simp (e, lt-leb 3 k h, le-leb (size_of r.description k) i g))
 
   pub inside : (x : Float) → breaks14 r ≡ false → k < 3 → i < size_of r.description k
-      → (x ≡ position_of (orig_in r k) (inc_in r k) i) × Near (orig_in r k) (inc_in r k) i x → Promised (At x)
+      → (x ≡ position_of (orig_in r k) (inc_in r k) i) × Near (orig_in r k) (inc_in r k) i x → Promised (Ok x)
   unfolding position_answer PositionNear
   inside x e h g p = (simp (e, lt-leb 3 k h, lt-leb (size_of r.description k) i g, p.0), λ y t. let q : x ≡ y = cc in rw q at p.1)

@@ -26,6 +26,7 @@ use Rattle.regions.specs.Search.{find, found_of, fails, entries_in, Below, block
 use Rattle.regions.proofs.Finds.{find_agree, found_at, found_nothing}
 use Rattle.regions.proofs.Lowest.{touched, lowest-found, lowest-none}
 use Rattle.regions.proofs.Blocks.{fit_of, within_of, block_touched, block_below, fails-is}
+use Rattle.record.specs.declared.Refusal.TheVariants as refusal
 
 -- ---- checks 12 and 19
 
@@ -62,7 +63,7 @@ module _ (r : Record) (g : Region) (p : Passed r g) (t : Table) (b : Block) (et 
 pub rest_read : (write : Bool) (r : Record) (f : List ℕ) (g : Region) → write ≡ false → Taken ≡ rest write r f g
 rest_read write r f g e = rw e
 
-pub rest-write : (write : Bool) (r : Record) (f : List ℕ) (g : Region) → write ≡ true → unless_touched r 19 (touches r g) (not_stored r f) Taken ≡ rest write r f g
+pub rest-write : (write : Bool) (r : Record) (f : List ℕ) (g : Region) → write ≡ true → unless_touched r refusal.NotStored (touches r g) (not_stored r f) Taken ≡ rest write r f g
 rest-write write r f g e = rw e
 
 pub allowed_of : (r : Record) (n : ℕ) (g : Region) → breaks14_with r n ≡ false → g.level < r.levels → Allowed r g

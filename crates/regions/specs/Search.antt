@@ -17,6 +17,7 @@ use Rattle.regions.specs.declared.Found.{Found}
 use Rattle.regions.specs.declared.Found.TheVariants.{At, Nothing}
 use Rattle.regions.specs.declared.Along.{Along}
 use Rattle.regions.specs.declared.Block.{Block}
+use Rattle.record.specs.declared.Refusal.TheVariants as refusal
 
 -- the first of a list that passes
 unfoldable pub find : (ℕ → Bool) → List ℕ → Option ℕ
@@ -84,4 +85,4 @@ pub record Passed (r : Record) (g : Region) : Type 0 where
 
 -- what is judged after check 12: check 19 for a write, nothing for a read
 abbrev pub rest : Bool → Record → List ℕ → Region → Verdict
-rest write r f g = cond write (unless_touched r 19 (touches r g) (not_stored r f) Taken) Taken
+rest write r f g = cond write (unless_touched r refusal.NotStored (touches r g) (not_stored r f) Taken) Taken

@@ -19,7 +19,8 @@ use Rattle.checks.proofs.Described.{both, not-false}
 use Rattle.checks.proofs.Texts.{zeros_to, zero_more, other-more}
 use Rattle.strings.specs.Strings.{end_of, string_at, turn_of, place_from, place_of, strings_from, strings_of}
 use Rattle.strings.specs.Five.{nth, Five}
-use Rattle.strings.specs.declared.Turn.TheVariants.{Item}
+use Rattle.std.specs.Prelude.{Some}
+use Rattle.strings.specs.Strings.{item}
 use Rattle.strings.proofs.Ends.{end_low, end_high, end_zero, end_before}
 use Rattle.strings.proofs.Turns.{turn-item, turn-done, place_next, place-stays, strings-item, strings-done}
 
@@ -84,8 +85,8 @@ module _ (t : List ℕ) (count : zeros_to t (length t) ≡ 5) (last : get_or t (
     next_is : place_of t (suc n) ≡ end_of t (place_of t n) + 1
     next_is = place_next t n starts
 
-    item : turn_of t (place_of t n) ≡ Item (place_of t n) (end_of t (place_of t n)) (place_of t (suc n))
-    item = rw next_is (turn-item t (place_of t n) starts)
+    item_n : turn_of t (place_of t n) ≡ Some (item (place_of t n) (end_of t (place_of t n)) (place_of t (suc n)))
+    item_n = rw next_is (turn-item t (place_of t n) starts)
 
     clear : (i : ℕ) → i < length (nth t n) → get_or (nth t n) i 0 ≡ 0 → ⊥
     unfolding string_at
@@ -139,7 +140,7 @@ module _ (t : List ℕ) (count : zeros_to t (length t) ≡ 5) (last : get_or t (
   unfolding strings_of place_from
   five =
       record {
-        hands = item;
+        hands = item_n;
         done = λ n h. turn-done t (place_of t n) (rw (← place-stays t (place_of t 5) 5 n h refl at_end) at_end);
         stays = turn-done t;
         strings = list 5 0 (length t) refl (omega (arith, (after 5 (le_refl 5)).bytes_before, (after 5 (le_refl 5)).inside));

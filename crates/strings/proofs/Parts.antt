@@ -1,7 +1,7 @@
 -- The string that a turn hands out: the n-th, and a part of the file. Assumes nothing.
 use mathlib.Core.Bool.{Bool, true, false, cond}
 use mathlib.Core.List.{List, []}
-use mathlib.Core.Option
+use mathlib.Core.Option as math
 use mathlib.Core.Path.{◌≡◌, refl, sym, ap, ◌∙◌}
 use Prim.Native.Nat.{ℕ, ◌+◌, ◌-◌, ◌≤◌}
 use native.Mathlib.Decide.{dec_le}
@@ -15,14 +15,21 @@ use Rattle.record.specs.declared.Record.{Record}
 use Rattle.record.specs.Answers.{Verdict}
 use Rattle.record.specs.Answers.{Taken}
 use Rattle.record.specs.Answers.{refused}
-use Rattle.strings.specs.Strings.{strings_verdict, text_in, end_of, string_at, turn_of, turn_verdict, turn_string, turn_by, place_of, turn_in, strings_of}
-use Rattle.strings.specs.declared.Turn.{Turn}
-use Rattle.strings.specs.declared.Turn.TheVariants.{Item, Done}
+use Rattle.strings.specs.Strings.{strings_verdict, text_in, end_of, string_at, turn_of, turn_string, place_of, turn_in, strings_of}
+use Rattle.strings.specs.declared.Item.{Item}
+use Rattle.record.specs.declared.Refusal.{Refusal}
+use Rattle.record.specs.Answers.{verdict_of, answered}
+use Rattle.std.specs.Prelude.{Option, Result}
+use Rattle.std.specs.Prelude.{Some, None}
+use Rattle.strings.specs.Strings.{item}
 use Rattle.strings.proofs.Ends.{end_low, end_high}
 use Rattle.strings.proofs.Turns.{turn-item, turn-done, string_done, string_nth, item-found}
 use Rattle.strings.proofs.Verdicts.{text_inside, taken-passes, text_taken, text_refused}
 use Rattle.std.specs.Prelude.{Ok}
 use Rattle.std.specs.Prelude.{Err}
+
+ok-same : {x y : Option Item} → ◌≡◌ {A = Result (Option Item) Refusal} (Ok x) (Ok y) → x ≡ y
+ok-same e = cc
 
 module _ (r : Record) (f : List ℕ) (n : ℕ) where
   abbrev t : List ℕ
@@ -31,23 +38,18 @@ module _ (r : Record) (f : List ℕ) (n : ℕ) where
   abbrev at : ℕ
   at = place_of t n
 
-  pub turn_verdict_lem : turn_verdict (turn_in r f n) ≡ strings_verdict r f
-  unfolding turn_of
+  pub turn_verdict_lem : verdict_of (turn_in r f n) ≡ strings_verdict r f
   turn_verdict_lem = go (strings_verdict r f)
     where
-      found : (b : Bool) → turn_verdict (cond b (Item at (end_of t at) (end_of t at + 1)) Done) ≡ Taken
-      found true = refl
-      found false = refl
-
-      go : (v : Verdict) → turn_verdict (turn_by v t at) ≡ v
-      go (Ok u) = found (ltb at (length t))
+      go : (v : Verdict) → verdict_of (answered v (turn_of t at)) ≡ v
+      go (Ok u) = refl
       go (Err x) = refl
 
-  pub turn-nth : Option.get_or (turn_string t (turn_in r f n)) [] ≡ get_or (strings_of t) n []
+  pub turn-nth : math.get_or (turn_string t (turn_in r f n)) [] ≡ get_or (strings_of t) n []
   unfolding string_at
   turn-nth = go (strings_verdict r f) refl ∙ sym (string_nth t n)
     where
-      go : (v : Verdict) → strings_verdict r f ≡ v → Option.get_or (turn_string t (turn_by v t at)) [] ≡ string_at t at
+      go : (v : Verdict) → strings_verdict r f ≡ v → math.get_or (turn_string t (answered v (turn_of t at))) [] ≡ string_at t at
       go (Ok u) e =
           elim (dec_le (length t) at) [
             | yes g ↦ rw (turn-done t at g) (sym (string_done t at g))
@@ -55,16 +57,16 @@ module _ (r : Record) (f : List ℕ) (n : ℕ) where
           ]
       go (Err x) e = sym (string_done t at (omega (arith, ap length (text_refused r f x e))))
 
-  module _ (start end next : ℕ) (e : Item start end next ≡ turn_in r f n) where
+  module _ (start end next : ℕ) (e : Ok (Some (item start end next)) ≡ turn_in r f n) where
     -- a refused walker hands out no string
     item-taken : strings_verdict r f ≡ Taken
-    item-taken = sym (ap turn_verdict e ∙ turn_verdict_lem)
+    item-taken = sym (ap verdict_of e ∙ turn_verdict_lem)
 
     -- the string lies in the text section, and that in the file
     pub item-inside : (start ≤ end) × (end ≤ r.text) × (text_start + r.text ≤ length f)
     item-inside =
         let i = text_inside r f (taken-passes r f item-taken).0 in
-        let q = item-found t at start end next (e ∙ ap (λ (v : Verdict). turn_by v t at) item-taken) in
+        let q = item-found t at start end next (ok-same (e ∙ ap (λ (v : Verdict). answered v (turn_of t at)) item-taken)) in
         let s : length t ≡ r.text = ap length (text_taken r f item-taken) ∙ length-peek f text_start r.text i.1 in
         (omega (arith, end_low t at), omega (arith, end_high t at (omega arith)), i.1)
 
@@ -74,5 +76,5 @@ module _ (r : Record) (f : List ℕ) (n : ℕ) where
         let i = item-inside in
         sym (peek_part f text_start r.text start (end - start) i.2 (omega arith))
         ∙ ap (λ (l : List ℕ). peek l start (end - start)) (sym (text_taken r f item-taken))
-        ∙ ap (λ (a : Turn). Option.get_or (turn_string t a) []) e
+        ∙ ap (λ (a : Result (Option Item) Refusal). math.get_or (turn_string t a) []) e
         ∙ turn-nth

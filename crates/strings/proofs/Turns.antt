@@ -10,15 +10,17 @@ use lib.ListN.{get_or, length, drop_of_length-le}
 use lib.Seq.{take-nil}
 use borrow.Author.Tests.{lt-ltb, le-ltb}
 use Rattle.strings.specs.Strings.{end_of, string_at, turn_of, place_from, place_of, strings_from, strings_of}
-use Rattle.strings.specs.declared.Turn.TheVariants.{Item, Done}
+use Rattle.std.specs.Prelude.{Option, Some, None}
+use Rattle.strings.specs.declared.Item.{Item}
+use Rattle.strings.specs.Strings.{item}
 use Rattle.strings.proofs.Ends.{end_low}
 
 module _ (t : List ℕ) (at : ℕ) where
-  pub turn-item : at < length t → turn_of t at ≡ Item at (end_of t at) (end_of t at + 1)
+  pub turn-item : at < length t → turn_of t at ≡ Some (item at (end_of t at) (end_of t at + 1))
   unfolding turn_of
   turn-item h = rw (lt-ltb at (length t) h)
 
-  pub turn-done : length t ≤ at → turn_of t at ≡ Done
+  pub turn-done : length t ≤ at → turn_of t at ≡ None
   unfolding turn_of
   turn-done h = rw (le-ltb at (length t) h)
 
@@ -73,6 +75,11 @@ pub string_nth : (t : List ℕ) (n : ℕ) → get_or (strings_of t) n [] ≡ str
 unfolding strings_of
 string_nth t n = strings-nth t (length t) 0 n (omega arith)
 
+-- the item of a turn that is one
+some_item : Option Item → Item
+some_item (Some x) = x
+some_item None = item 0 0 0
+
 -- a turn that is an item: its numbers
 pub record Found (t : List ℕ) (at start end next : ℕ) : Type 0 where
   pub here : at < length t
@@ -81,11 +88,14 @@ pub record Found (t : List ℕ) (at start end next : ℕ) : Type 0 where
   pub next_is : next ≡ end_of t at + 1
 
 module _ (t : List ℕ) (at : ℕ) where
-  pub item-found : (start end next : ℕ) → Item start end next ≡ turn_of t at → Found t at start end next
+  pub item-found : (start end next : ℕ) → Some (item start end next) ≡ turn_of t at → Found t at start end next
+  unfolding some_item
   item-found start end next e =
       elim (dec_le (length t) at) [
         | yes g ↦ let q = turn-done t at g in let z : ◌≡◌ {A = ℕ} 0 1 = cc in absurd (omega arith)
-        | no g ↦ let q = turn-item t at (omega arith) in record { here = omega arith; start_is = cc; end_is = cc; next_is = cc }
+        | no g ↦
+            let q : some_item (Some (item start end next)) ≡ some_item (Some (item at (end_of t at) (end_of t at + 1))) = ap some_item (e ∙ turn-item t at (omega arith)) in
+            record { here = omega arith; start_is = ap (λ (x : Item). x.start) q; end_is = ap (λ (x : Item). x.end) q; next_is = ap (λ (x : Item). x.next) q }
       ]
 
 -- a turn more leads past the string's zero

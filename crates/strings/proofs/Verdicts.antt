@@ -18,7 +18,7 @@ use Rattle.checks.proofs.Described.{passed, described_text}
 use Rattle.checks.proofs.Records.{with_fit}
 use Rattle.strings.specs.Strings.{strings_verdict, text_in, turn_in}
 use Rattle.strings.specs.Five.{Five}
-use Rattle.strings.specs.declared.Turn.TheVariants as turn
+use Rattle.std.specs.Prelude.{Err}
 use Rattle.strings.proofs.Fives.{text_five}
 
 module _ (r : Record) (f : List ℕ) where
@@ -46,5 +46,5 @@ module _ (r : Record) (f : List ℕ) where
   pub cube_five : strings_verdict r f ≡ Taken → (text_in r f ≡ text_of f r.text) × Five (text_in r f)
   cube_five e = (text_taken e, rw (text_taken e) (text_five _ (taken-passes e).1))
 
-  pub refused_turns : (n : ℕ) (x : Refusal) → strings_verdict r f ≡ refused x → (text_in r f ≡ []) × (turn_in r f n ≡ turn.Refused x)
+  pub refused_turns : (n : ℕ) (x : Refusal) → strings_verdict r f ≡ refused x → (text_in r f ≡ []) × (turn_in r f n ≡ Err x)
   refused_turns n x e = (text_refused x e, rw e)

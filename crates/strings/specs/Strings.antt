@@ -1,22 +1,16 @@
 -- The strings of a cube's text section (FORMAT 10.11), and the turns in which a walker hands them out.
-use Rattle.std.specs.Prelude.{cond, List, [], ◌∷◌, ℕ, zero, suc, ◌+◌, ◌-◌, eqb, ltb, length, drop}
+use Rattle.std.specs.Prelude.{cond, List, [], ◌∷◌, ℕ, zero, suc, ◌+◌, ◌-◌, eqb, ltb, length, drop, Option, Some, None, Result, Ok, Err}
 use Rattle.std.specs.List.{position_or_len}
-use Rattle.std.proofs.Math.Option.{Option, none, some}
+use Rattle.std.proofs.Math.Option as math
 use Rattle.endian.specs.Bytes.{peek}
-use Rattle.record.specs.Answers.{refused, is_taken}
+use Rattle.record.specs.Answers.{Verdict, Taken, refused, is_taken, answered}
 use Rattle.record.specs.Header.{text_of}
 use Rattle.record.specs.declared.Record.{Record}
-use Rattle.record.specs.Answers.{Verdict}
-use Rattle.record.specs.Answers.{Taken}
-use Rattle.record.specs.Answers.{refused}
+use Rattle.record.specs.declared.Refusal.{Refusal}
+use Rattle.record.specs.declared.Refusal.TheVariants as refusal
 use Rattle.checks.specs.Checks.{breaks11}
 use Rattle.checks.specs.Fits.{breaks14_with}
-use Rattle.strings.specs.declared.Turn.{Turn}
-use Rattle.strings.specs.declared.Turn.TheVariants as turn
-use Rattle.strings.specs.declared.Turn.TheVariants.{Item, Done}
-use Rattle.record.specs.declared.Refusal.TheVariants as refusal
-use Rattle.std.specs.Prelude.{Ok}
-use Rattle.std.specs.Prelude.{Err}
+use Rattle.strings.specs.declared.Item.{Item}
 
 -- check 14 with the file f, then check 11 of its text section
 unfoldable pub strings_verdict : Record → List ℕ → Verdict
@@ -41,31 +35,23 @@ end_of t at = at + index_of 0 (drop at t)
 unfoldable pub string_at : List ℕ → ℕ → List ℕ
 string_at t at = peek t at (end_of t at - at)
 
--- what a walker at a place hands out: the string from there to its end, with the next one after its zero; past the text's last byte it is done
-unfoldable pub turn_of : List ℕ → ℕ → Turn
-turn_of t at = cond (ltb at (length t)) (Item at (end_of t at) (end_of t at + 1)) Done
+-- the string from start to end, with the next one at next
+abbrev pub item : ℕ → ℕ → ℕ → Item
+item start end next = record { start = start; end = end; next = next }
 
--- what a turn says, by its cases: its verdict, whose numbers are those of FORMAT 9.2, where done is taken; the string that it hands out of a text; and where a
--- walker at a place stands after it
-abbrev pub turn_verdict : Turn → Verdict
-turn_verdict (Item start end next) = Taken
-turn_verdict Done = Taken
-turn_verdict (turn.Refused x) = refused x
+-- what a walker at a place hands out: the string from there to its end, with the next one after its zero; past the text's last byte none
+unfoldable pub turn_of : List ℕ → ℕ → Option Item
+turn_of t at = cond (ltb at (length t)) (Some (item at (end_of t at) (end_of t at + 1))) None
 
-abbrev pub turn_string : List ℕ → Turn → Option (List ℕ)
-turn_string t (Item start end next) = some (peek t start (end - start))
-turn_string t Done = none
-turn_string t (turn.Refused x) = none
+-- the string that a turn hands out of a text, and where a walker at a place stands after it
+abbrev pub turn_string : List ℕ → Result (Option Item) Refusal → math.Option (List ℕ)
+turn_string t (Ok (Some x)) = math.some (peek t x.start (x.end - x.start))
+turn_string t (Ok None) = math.none
+turn_string t (Err x) = math.none
 
-abbrev pub after_turn : ℕ → Turn → ℕ
-after_turn at (Item start end next) = next
-after_turn at Done = at
-after_turn at (turn.Refused x) = at
-
--- what a walker with a verdict stands at
-abbrev pub turn_by : Verdict → List ℕ → ℕ → Turn
-turn_by (Ok u) t at = turn_of t at
-turn_by (Err x) t at = turn.Refused x
+abbrev pub after_turn : ℕ → Option Item → ℕ
+after_turn at (Some x) = x.next
+after_turn at None = at
 
 -- where a walker that starts at a place stands after n turns
 unfoldable pub place_from : List ℕ → ℕ → ℕ → ℕ
@@ -77,14 +63,13 @@ abbrev pub place_of : List ℕ → ℕ → ℕ
 place_of t n = place_from t 0 n
 
 -- turn n of a cube
-abbrev pub turn_in : Record → List ℕ → ℕ → Turn
-turn_in r f n = turn_by (strings_verdict r f) (text_in r f) (place_of (text_in r f) n)
+abbrev pub turn_in : Record → List ℕ → ℕ → Result (Option Item) Refusal
+turn_in r f n = answered (strings_verdict r f) (turn_of (text_in r f) (place_of (text_in r f) n))
 
 -- a turn's string, and after it the later ones from the next place on
-abbrev pub handed : List ℕ → Turn → (ℕ → List (List ℕ)) → List (List ℕ)
-handed t (Item start end next) later = peek t start (end - start) ∷ later next
-handed t Done later = []
-handed t (turn.Refused x) later = []
+abbrev pub handed : List ℕ → Option Item → (ℕ → List (List ℕ)) → List (List ℕ)
+handed t (Some x) later = peek t x.start (x.end - x.start) ∷ later x.next
+handed t None later = []
 
 -- the strings that n turns from a place on hand out
 unfoldable pub strings_from : List ℕ → ℕ → ℕ → List (List ℕ)

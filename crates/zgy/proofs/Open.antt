@@ -58,12 +58,12 @@ module _ (r : Record) (f : List ℕ) (v : Valid r f) where
   region_12 : (g : Region) (room need : ℕ) (later : Verdict) → number_of later ≢ 12 → number_of (region_verdict r f g room need later) ≢ 12
   unfolding region_verdict
   region_12 g room need later h =
-      let last : Verdict = unless_touched r 12 (touches r g) (breaks12 r f) later in
+      let last : Verdict = unless_touched r refusal.Range (touches r g) (breaks12 r f) later in
       by_check (breaks14_with r (length f)) 14 _ (λ q. omega arith)
       (by_check (leb r.levels g.level) 15 _ (λ q. omega arith)
       (by_check (not (in_extent r g)) 16 (cond (ltb room need) (refused refusal.Room) last) (λ q. omega arith)
       (by_check (ltb room need) 18 last (λ q. omega arith)
-      (λ q. h (ap number_of (sym (finds_none 12 (λ e. touches r g e && breaks12 r f e) (entries r) later none)) ∙ q)))))
+      (λ q. h (ap number_of (sym (finds_none refusal.Range (λ e. touches r g e && breaks12 r f e) (entries r) later none)) ∙ q)))))
     where
       none : (e : ℕ) → e < entries r → touches r g e && breaks12 r f e ≡ false
       none e l = go (touches r g e)

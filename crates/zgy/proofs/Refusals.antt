@@ -11,7 +11,7 @@ use Rattle.floats.specs.Position.{position_of}
 use Rattle.geometry.specs.Limits.{text_start}
 use Rattle.record.specs.Types.{coding_of, other_type, type_verdict}
 use Rattle.record.specs.declared.Coding.TheVariants.{Scaled, Float32, NoType}
-use Rattle.record.specs.Answers.{refused, refused_at, and_then, unless_found, verdict_of, done_of}
+use Rattle.record.specs.Answers.{refused, refused_at, and_then, unless_found, verdict_of, answered}
 use Rattle.record.specs.Header.{version_of, description_of, text_length_of, text_of}
 use Rattle.record.specs.Record.{size_of, bricks_of, brick_bytes_of, header_of}
 use Rattle.record.specs.declared.Description.{Description}
@@ -109,7 +109,7 @@ region ks r f g room need later a b c d e l =
     by_check ks (breaks14_with r (length f)) _ _ a (by_check ks (leb r.levels g.level) _ _ b (by_check ks (not (in_extent r g)) _ _ c (by_check ks (ltb room need) _ _ d (by-found ks 12 (λ e. touches r g e && breaks12 r f e) (bricks_of r.description) later e l))))
 
 -- an answer's verdict is the one that made it
-verdict_done : (v : Verdict) (n : ℕ) → verdict_of (done_of v n) ≡ v
+verdict_done : (v : Verdict) (n : ℕ) → verdict_of (answered v n) ≡ v
 verdict_done (Ok u) n = refl
 verdict_done (Err x) n = refl
 

@@ -15,17 +15,17 @@ position-requires c =
 
 pub returns-then-check14 : goal.returns-then-check14
 returns-then-check14 c =
-    let p = breaks_14 _ c.args.dimension c.args.index _ c.refuse.ensures (sym c.check14.ensures ∙ c.if-check14.true) in
+    let p = breaks_14 _ c.args.dimension c.args.index (sym c.check14.ensures ∙ c.if-check14.true) in
     record { answer = p.0; near = p.1 }
 
 pub returns-then-dimension-ge3 : goal.returns-then-dimension-ge3
 returns-then-dimension-ge3 c =
-    let p = no_dimension _ c.args.dimension c.args.index _ c.refuse-then-dimension-ge3.ensures (sym c.check14.ensures ∙ c.if-check14.false) (omega arith) in
+    let p = no_dimension _ c.args.dimension c.args.index (sym c.check14.ensures ∙ c.if-check14.false) (omega arith) in
     record { answer = p.0; near = p.1 }
 
-pub returns-then-size-along : goal.returns-then-size-along
-returns-then-size-along c =
-    let p = no_index _ c.args.dimension c.args.index _ c.refuse-then-size-along.ensures (sym c.check14.ensures ∙ c.if-check14.false) (omega arith) (omega arith) in
+pub returns-then-r-along : goal.returns-then-r-along
+returns-then-r-along c =
+    let p = no_index _ c.args.dimension c.args.index (sym c.check14.ensures ∙ c.if-check14.false) (omega arith) (omega arith) in
     record { answer = p.0; near = p.1 }
 
 pub returns : goal.returns
