@@ -6,7 +6,6 @@ use Prim.Native.Nat.{ℕ, ◌+◌, ◌^◌, ◌≤◌, ◌<◌}
 use native.Mathlib.Omega.{arith}
 use lib.ListN.{length}
 use borrow.Author.Tests.{le-leb, lt-leb, leb-false}
-use Rattle.record.specs.Answers.{refused, refused_at}
 use Rattle.record.specs.Types.{coding_of, width_of}
 use Rattle.record.specs.Record.{brick_bytes_of}
 use Rattle.record.specs.declared.Coding.{Coding}
@@ -22,9 +21,8 @@ use Rattle.table.specs.declared.Table.{Table}
 use Rattle.table.specs.Entries.{table_in, kind_in, breaks12, Derived, Readable}
 use Rattle.table.proofs.Tables.{fits_derived, count-is, readable, names_narrow, stored-inside}
 use Rattle.cube.specs.Places.{item_bytes}
-use Rattle.bricks.specs.Bricks.{brick_of, kind_verdict, kind_answer}
-use Rattle.bricks.specs.declared.Brick.{Brick}
-use Rattle.bricks.specs.declared.Found.TheVariants as found
+use Rattle.bricks.specs.Bricks.{kind_verdict}
+use Rattle.std.specs.Prelude.{Ok}
 use Rattle.bricks.specs.Filler.{Narrow}
 use Rattle.record.specs.declared.Refusal.TheVariants as refusal
 
@@ -33,7 +31,7 @@ use Rattle.record.specs.declared.Refusal.TheVariants as refusal
 pub narrow_in : (r : Record) (f : List ℕ) (e : ℕ) → Narrow (item_bytes r) (kind_in r f e)
 narrow_in = names_narrow
 
-pub raw-fits : (k w h n : ℕ) → coding_of k ≡ Coding.Scaled w h → n < 256 ^ width_of k → n < 256 ^ w
+pub raw-fits : (k w h n : ℕ) → coding_of k ≡ Ok (Coding.Scaled w h) → n < 256 ^ width_of k → n < 256 ^ w
 unfolding width_of
 raw-fits k w h n e l = rw e at l
 
@@ -60,15 +58,6 @@ module _ (r : Record) (f : List ℕ) (e : ℕ) where
   pub kind_taken : breaks14_with r (length f) ≡ false → e < r.bricks → breaks12 r f e ≡ false → kind_verdict r f e ≡ Taken
   unfolding kind_verdict
   kind_taken p h q = simp (p, lt-leb r.bricks e h, q)
-
-  -- the answer, refused and known
-  pub kind_refused : (x : Refusal) → kind_verdict r f e ≡ refused x → found.Refused x ≡ kind_answer r f e
-  unfolding kind_answer
-  kind_refused x v = simp v
-
-  pub kind_known : (b : Brick) → kind_verdict r f e ≡ Taken → b ≡ brick_of r.description.datatype (kind_in r f e) → found.Known b ≡ kind_answer r f e
-  unfolding kind_answer
-  kind_known b v h = simp (v, h)
 
 -- what an entry owes that passes its checks
 pub record Seen (r : Record) (f : List ℕ) (e : ℕ) : Type 0 where

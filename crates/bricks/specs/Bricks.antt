@@ -1,15 +1,14 @@
 -- Brick kind and brick view, by entry number (FORMAT 10.5, 10.6).
-use Rattle.std.specs.Prelude.{Bool, not, cond, List, [], ◌≡◌, ℕ, ◌+◌, ◌%◌, eqb, leb, ltb, get_or, length, take}
+use Rattle.std.specs.Prelude.{Bool, not, cond, List, [], ◌≡◌, ℕ, ◌+◌, ◌%◌, eqb, leb, ltb, get_or, length, take, Result, Ok, Err}
 use Rattle.std.specs.Borrow.{Bor}
 use Rattle.endian.specs.Loops.{first}
 use Rattle.endian.specs.Bytes.{peek, lows}
-use Rattle.record.specs.Answers.{refused, refused_at, and_then}
+use Rattle.record.specs.Answers.{Verdict, Taken, refused, and_then, answered}
 use Rattle.record.specs.Types.{value_of}
 use Rattle.record.specs.Record.{brick_bytes_of}
 use Rattle.record.specs.declared.Record.{Record}
-use Rattle.record.specs.Answers.{Verdict}
-use Rattle.record.specs.Answers.{Taken}
-use Rattle.record.specs.Answers.{refused}
+use Rattle.record.specs.declared.Refusal.{Refusal}
+use Rattle.record.specs.declared.Refusal.TheVariants as refusal
 use Rattle.checks.specs.Fits.{breaks14_with}
 use Rattle.table.specs.declared.Kind.{Kind}
 use Rattle.table.specs.declared.Kind.TheVariants.{Missing, Constant, Stored}
@@ -17,11 +16,6 @@ use Rattle.table.specs.Entries.{kind_in, breaks12}
 use Rattle.cube.specs.Places.{item_bytes, kind_in, missing_brick}
 use Rattle.bricks.specs.declared.Brick.{Brick}
 use Rattle.bricks.specs.declared.Brick.TheVariants as brick
-use Rattle.bricks.specs.declared.Found.{Found}
-use Rattle.bricks.specs.declared.Found.TheVariants as found
-use Rattle.record.specs.declared.Refusal.TheVariants as refusal
-use Rattle.std.specs.Prelude.{Ok}
-use Rattle.std.specs.Prelude.{Err}
 
 -- a brick's kind as a caller sees it: missing, constant with its storage value as a float, unscaled, or stored with its offset
 abbrev pub brick_of : ℕ → Kind → Brick
@@ -37,18 +31,9 @@ kind_verdict r f e =
     (cond (breaks12 r f e) (refused (refusal.Range e))
     Taken))
 
-abbrev pub found_of : Verdict → Brick → Found
-found_of (Ok u) b = found.Known b
-found_of (Err x) b = found.Refused x
-
--- an answer's verdict
-abbrev pub found_verdict : Found → Verdict
-found_verdict (found.Known b) = Taken
-found_verdict (found.Refused x) = refused x
-
 -- what brick kind answers
-unfoldable pub kind_answer : Record → List ℕ → ℕ → Found
-kind_answer r f e = found_of (kind_verdict r f e) (brick_of r.description.datatype (kind_in r f e))
+unfoldable pub kind_answer : Record → List ℕ → ℕ → Result Brick Refusal
+kind_answer r f e = answered (kind_verdict r f e) (brick_of r.description.datatype (kind_in r f e))
 
 -- the bytes of one item of a brick that is not stored
 abbrev pub fill_of : Record → Kind → List ℕ

@@ -3,8 +3,8 @@
 
 ghost use Rattle.std.specs.Prelude.{◌≡◌, ◌*◌, ◌^◌, ◌<◌, ◌≤◌, length};
 ghost use Rattle.record.specs.Types.{width_of, value_of};
-ghost use Rattle.record.specs.Answers.{Taken};
-ghost use Rattle.table.specs.Entries.{Width, Derived};
+ghost use Rattle.record.specs.Answers.{Taken, answered};
+ghost use Rattle.table.specs.Entries.{kind_in, Width, Derived};
 ghost use Rattle.table.specs.declared.Kind.TheVariants.{Constant};
 ghost use Rattle.cube.specs.Places.{item_bytes};
 ghost use Rattle.bricks.specs.Bricks.{brick_of, kind_verdict, kind_answer, filler_verdict, shown_verdict, view_verdict, view_of, Shows};
@@ -14,7 +14,7 @@ use checks::check14_with;
 use cube::missing_brick;
 use endian::u32_at;
 use floats::{integer_value, widen_bits};
-use record::{Coding, Record, Refusal, Verdict, coding_of, refuse, refuse_at};
+use record::{Coding, Record, Refusal, coding_of};
 use table::{Kind, kind_at, out_of_range, table_in};
 
 // What a brick is. A constant is the storage value, unscaled; a stored brick has its offset in the file.
@@ -25,27 +25,28 @@ pub enum Brick {
     Stored(u64),
 }
 
-// What brick kind answers.
-#[derive(Clone, Copy)]
-pub enum Found {
-    Known(Brick),
-    Refused(Refusal),
-}
-
 // Checks 14, 16 and 12.
-fn check_entry(file: &[u8], r: Record, entry: u32) -> Verdict
+fn check_entry(file: &[u8], r: Record, entry: u32) -> Result<(), Refusal>
     ensures { result ≡ kind_verdict r file.now entry }
 {
     if check14_with(r, file.len() as u64) {
-        return refuse(14);
+        return Err(Refusal::Record);
     }
     if r.bricks <= entry {
-        return refuse(16);
+        return Err(Refusal::Index);
     }
     if out_of_range(file, table_in(r), entry as usize) {
-        return refuse_at(12, entry);
+        return Err(Refusal::Range(entry));
     }
-    Verdict::Taken
+    Ok(())
+}
+
+// What an entry names, once its checks have passed.
+fn kind_of_entry(file: &[u8], r: Record, entry: u32) -> Result<Kind, Refusal>
+    ensures { result ≡ answered (kind_verdict r file.now entry) (kind_in r file.now entry) }
+{
+    check_entry(file, r, entry)?;
+    Ok(kind_at(file, table_in(r), entry as usize))
 }
 
 // The storage value of a constant as a float, unscaled.
@@ -53,11 +54,10 @@ fn constant_value(datatype: u8, raw: u32) -> f64
     requires { raw < 256 ^ width_of datatype }
     ensures { result ≡ value_of datatype raw }
 {
-    let coding = coding_of(datatype);
-    match coding {
-        Coding::Scaled { width: _, half } => integer_value(raw, half),
-        Coding::Float32 { width: _ } => widen_bits(raw),
-        Coding::NoType(_) => widen_bits(raw),
+    match coding_of(datatype) {
+        Ok(Coding::Scaled { width: _, half }) => integer_value(raw, half),
+        Ok(Coding::Float32 { width: _ }) => widen_bits(raw),
+        Err(_) => widen_bits(raw),
     }
 }
 
@@ -73,18 +73,11 @@ fn brick_of(datatype: u8, kind: Kind) -> Brick
 }
 
 // What the brick of an entry is.
-pub fn brick_kind(file: &[u8], r: Record, entry: u32) -> Found
+pub fn brick_kind(file: &[u8], r: Record, entry: u32) -> Result<Brick, Refusal>
     ensures { result ≡ kind_answer r file.now entry }
 {
-    let verdict = check_entry(file, r, entry);
-    match verdict {
-        Verdict::Refused(refusal) => Found::Refused(refusal),
-        Verdict::Taken => {
-            let d = r.description;
-            let t = table_in(r);
-            Found::Known(brick_of(d.datatype, kind_at(file, t, entry as usize)))
-        }
-    }
+    let kind = kind_of_entry(file, r, entry)?;
+    Ok(brick_of(r.description.datatype, kind))
 }
 
 // The word whose four bytes are the value's bytes, again and again.
@@ -104,59 +97,53 @@ fn same_words(filler: &[u8], word: u32, count: usize) -> bool
     requires { 4 * count ≤ length filler.now }
     ensures { Same filler.now word count result }
 {
-    let mut different: u32 = 0;
-    let mut i = 0;
-    while i < count {
-        different = different | (u32_at(filler, 4 * i) ^ word);
-        i += 1;
+    let mut different = 0;
+    for i in 0..count {
+        different |= u32_at(filler, 4 * i) ^ word;
     }
     different == 0
 }
 
 // Checks 18 and 17, for a brick whose every sample has this value. A brick is a whole number of words, since a side is.
-fn check_filler(filler: &[u8], r: Record, value: u32) -> Verdict
+fn check_filler(filler: &[u8], r: Record, value: u32) -> Result<(), Refusal>
     requires { Derived r × (value < 256 ^ item_bytes r) }
     ensures { result ≡ filler_verdict r (Constant value) filler.now }
 {
     let t = table_in(r);
     let bytes = t.brick as usize;
     if filler.len() < bytes {
-        return refuse(18);
+        return Err(Refusal::Room);
     }
     let words = bytes / 4;
     if same_words(filler, repeated(value, t.width), words) {
-        return Verdict::Taken;
+        return Ok(());
     }
-    refuse(17)
+    Err(Refusal::Filler)
 }
 
 // A missing brick is shown as one of the value that it reads as.
-fn check_shown(filler: &[u8], r: Record, kind: Kind) -> Verdict
+fn check_shown(filler: &[u8], r: Record, kind: Kind) -> Result<(), Refusal>
     requires { Derived r × Narrow (item_bytes r) kind }
     ensures { result ≡ shown_verdict r kind filler.now }
 {
     match kind {
-        Kind::Missing => {
-            let missing = missing_brick(r);
-            check_filler(filler, r, missing.value)
-        }
+        Kind::Missing => check_filler(filler, r, missing_brick(r).value),
         Kind::Constant(value) => check_filler(filler, r, value),
-        Kind::Stored(_) => Verdict::Taken,
+        Kind::Stored(_) => Ok(()),
     }
 }
 
 // Whether brick view shows the brick of an entry: checks 14, 16 and 12, then 18 and 17 where it would show the filler.
-pub fn brick_view_verdict(file: &[u8], filler: &[u8], r: Record, entry: u32) -> Verdict
+pub fn brick_view_verdict(
+    file: &[u8],
+    filler: &[u8],
+    r: Record,
+    entry: u32,
+) -> Result<(), Refusal>
     ensures { result ≡ view_verdict r file.now filler.now entry }
 {
-    let verdict = check_entry(file, r, entry);
-    match verdict {
-        Verdict::Refused(_) => verdict,
-        Verdict::Taken => {
-            let t = table_in(r);
-            check_shown(filler, r, kind_at(file, t, entry as usize))
-        }
-    }
+    let kind = kind_of_entry(file, r, entry)?;
+    check_shown(filler, r, kind)
 }
 
 // The brick's part of the file where it is stored, else the start of the filler.
@@ -166,8 +153,7 @@ fn shown<'a>(file: &'a [u8], filler: &'a [u8], r: Record, entry: u32) -> &'a [u8
 {
     let t = table_in(r);
     let bytes = t.brick as usize;
-    let kind = kind_at(file, t, entry as usize);
-    match kind {
+    match kind_at(file, t, entry as usize) {
         Kind::Missing => &filler[0..bytes],
         Kind::Constant(_) => &filler[0..bytes],
         Kind::Stored(offset) => {
@@ -182,9 +168,8 @@ fn shown<'a>(file: &'a [u8], filler: &'a [u8], r: Record, entry: u32) -> &'a [u8
 pub fn brick_view<'a>(file: &'a [u8], filler: &'a [u8], r: Record, entry: u32) -> &'a [u8]
     ensures { Shows (view_of r file.now filler.now entry) file.entry filler.entry result }
 {
-    let verdict = brick_view_verdict(file, filler, r, entry);
-    match verdict {
-        Verdict::Refused(_) => &file[0..0],
-        Verdict::Taken => shown(file, filler, r, entry),
+    match brick_view_verdict(file, filler, r, entry) {
+        Ok(()) => shown(file, filler, r, entry),
+        Err(_) => &file[0..0],
     }
 }

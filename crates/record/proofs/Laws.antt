@@ -21,6 +21,7 @@ use Rattle.record.specs.declared.Coding.TheVariants.{Scaled, Float32}
 use Rattle.record.specs.declared.Refusal.{Refusal}
 use Rattle.record.specs.declared.Refusal.TheVariants as refusal
 use Rattle.std.specs.Prelude.{Result, Ok, Err}
+use Rattle.record.specs.Answers.{Verdict, Taken, refused, answered}
 
 -- what holds of each type and of every other number holds of what a type number says
 pub coding_each : (P : ℕ → Result Coding Refusal → Type 0) → P 0 (Ok (Scaled 1 128)) → P 2 (Ok (Scaled 2 32768)) → P 6 (Ok (Float32 4)) → ((k : ℕ) → P k (Err refusal.Datatype))
@@ -84,3 +85,12 @@ module _ (k w h : ℕ) where
 -- the part of a file that is its text
 pub text_part : (f : List ℕ) (n : ℕ) → take (text_start + n - text_start) (drop text_start f) ≡ text_of f n
 text_part f n = rw add-sub_cancel_left
+
+-- what an answer says of its verdict and its value
+pub answered_ok : {A : Type 0} (v : Verdict) (x : A) {y : A} → answered v x ≡ Ok y → (v ≡ Taken) × (x ≡ y)
+answered_ok (Ok u) x e = (refl, cc)
+answered_ok (Err y) x e = let z : ◌≡◌ {A = ℕ} 0 1 = cc in absurd (omega arith)
+
+pub answered_err : {A : Type 0} (v : Verdict) (x : A) {y : Refusal} → answered v x ≡ Err y → v ≡ refused y
+answered_err (Ok u) x e = let z : ◌≡◌ {A = ℕ} 0 1 = cc in absurd (omega arith)
+answered_err (Err y) x e = cc

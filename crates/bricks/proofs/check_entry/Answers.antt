@@ -9,12 +9,12 @@ use Rattle.bricks.proofs.Entries.{entry_in_lem, kind_14, kind_16, kind_12, kind_
 use Rattle.bricks.proofs.check_entry.Goals as goal
 
 pub returns-then-check14_with : goal.returns-then-check14_with
-returns-then-check14_with c = c.refuse.ensures ∙ sym (kind_14 _ _ _ (sym c.check14_with.ensures ∙ c.if-check14_with.true))
+returns-then-check14_with c = sym (kind_14 _ _ _ (sym c.check14_with.ensures ∙ c.if-check14_with.true))
 
 pub returns-then-r-entry : goal.returns-then-r-entry
 returns-then-r-entry c =
     let passes : breaks14_with c.args.r (length c.args.file.now) ≡ false = sym c.check14_with.ensures ∙ c.if-check14_with.false in
-    c.refuse-then-r-entry.ensures ∙ sym (kind_16 _ _ _ passes (omega arith))
+    sym (kind_16 _ _ _ passes (omega arith))
 
 pub table_in-requires : goal.table_in-requires
 table_in-requires c =
@@ -31,7 +31,7 @@ pub returns-then-out_of_range : goal.returns-then-out_of_range
 returns-then-out_of_range c =
     let passes : breaks14_with c.args.r (length c.args.file.now) ≡ false = sym c.check14_with.ensures ∙ c.if-check14_with.false in
     let e = c.out_of_range.ensures ∙ outside_is _ _ c.table_in.ensures _ _ in
-    c.refuse_at.ensures ∙ sym (kind_12 _ _ _ passes (omega arith) (sym e ∙ c.if-out_of_range.true))
+    sym (kind_12 _ _ _ passes (omega arith) (sym e ∙ c.if-out_of_range.true))
 
 pub returns : goal.returns
 returns c =

@@ -13,7 +13,7 @@ use Rattle.bricks.proofs.check_filler.Goals as goal
 pub returns-then-filler-bytes : goal.returns-then-filler-bytes
 returns-then-filler-bytes c =
     let brick : c.table_in-t.result.brick ≡ brick_bytes_of c.args.r.description = brick-is _ _ c.table_in-t.ensures in
-    c.refuse.ensures ∙ sym (filler_18 _ _ _ (omega (arith, brick)))
+    sym (filler_18 _ _ _ (omega (arith, brick)))
 
 pub repeated-requires : goal.repeated-requires
 repeated-requires c =
@@ -39,5 +39,5 @@ returns c =
     filled_is _ _ c.args.value c.repeated.result (described-width _ _ p)
     (rw (width_is _ _ c.table_in-t.ensures) at c.repeated.ensures) _ _ _
     (λ i. (c.type_inv.filler i).fits) (omega (arith, c.repeated.type_inv)) (rw brick (brick_words _ _ p)) c.same_words.ensures in
-    c.refuse-2.ensures
-    ∙ sym (filler_17 _ _ _ (omega (arith, brick)) (sym judged ∙ c.if-same_words.false))
+    
+    sym (filler_17 _ _ _ (omega (arith, brick)) (sym judged ∙ c.if-same_words.false))

@@ -13,27 +13,27 @@ table_in-t-requires c =
     let entry_seen : Seen c.args.r c.args.file.now c.args.entry = seen _ _ _ (view_parts _ _ _ _ c.requires).0 in
     seen_derived _ _ _ entry_seen
 
-pub kind_at-kind-requires : goal.kind_at-kind-requires
-kind_at-kind-requires c =
+pub kind_at-requires : goal.kind_at-requires
+kind_at-requires c =
     let entry_seen : Seen c.args.r c.args.file.now c.args.entry = seen _ _ _ (view_parts _ _ _ _ c.requires).0 in
     seen_in _ _ _ entry_seen _ c.table_in-t.ensures
 
 pub slice_bounds-result-end : goal.slice_bounds-result-end
 slice_bounds-result-end c =
-    let named : c.kind_at-kind.result ≡ kind_in c.args.r c.args.file.now c.args.entry = c.kind_at-kind.ensures ∙ kind_is _ _ c.table_in-t.ensures _ _ in
+    let named : c.kind_at.result ≡ kind_in c.args.r c.args.file.now c.args.entry = c.kind_at.ensures ∙ kind_is _ _ c.table_in-t.ensures _ _ in
     let l = missing-long _ _ _ _ c.requires (sym named ∙ c.in-Missing.is) in
     omega (arith, brick-is _ _ c.table_in-t.ensures)
 
 pub slice_bounds-result-end-in-Constant : goal.slice_bounds-result-end-in-Constant
 slice_bounds-result-end-in-Constant c =
-    let named : c.kind_at-kind.result ≡ kind_in c.args.r c.args.file.now c.args.entry = c.kind_at-kind.ensures ∙ kind_is _ _ c.table_in-t.ensures _ _ in
+    let named : c.kind_at.result ≡ kind_in c.args.r c.args.file.now c.args.entry = c.kind_at.ensures ∙ kind_is _ _ c.table_in-t.ensures _ _ in
     let l = constant_long _ _ _ _ _ c.requires (sym named ∙ c.in-Constant.is) in
     omega (arith, brick-is _ _ c.table_in-t.ensures)
 
 pub overflow_add-end : goal.overflow_add-end
 overflow_add-end c =
     let entry_seen : Seen c.args.r c.args.file.now c.args.entry = seen _ _ _ (view_parts _ _ _ _ c.requires).0 in
-    let named : c.kind_at-kind.result ≡ kind_in c.args.r c.args.file.now c.args.entry = c.kind_at-kind.ensures ∙ kind_is _ _ c.table_in-t.ensures _ _ in
+    let named : c.kind_at.result ≡ kind_in c.args.r c.args.file.now c.args.entry = c.kind_at.ensures ∙ kind_is _ _ c.table_in-t.ensures _ _ in
     let inside : c.in-Stored.offset + c.table_in-t.result.brick ≤ length c.args.file.now = rw (brick-is _ _ c.table_in-t.ensures)
     (stored_in _ _ _ _ entry_seen (sym named ∙ c.in-Stored.is)) in
     omega (arith, inside, c.well_formed)
@@ -41,25 +41,25 @@ overflow_add-end c =
 pub slice_bounds-result-end-in-Stored : goal.slice_bounds-result-end-in-Stored
 slice_bounds-result-end-in-Stored c =
     let entry_seen : Seen c.args.r c.args.file.now c.args.entry = seen _ _ _ (view_parts _ _ _ _ c.requires).0 in
-    let named : c.kind_at-kind.result ≡ kind_in c.args.r c.args.file.now c.args.entry = c.kind_at-kind.ensures ∙ kind_is _ _ c.table_in-t.ensures _ _ in
+    let named : c.kind_at.result ≡ kind_in c.args.r c.args.file.now c.args.entry = c.kind_at.ensures ∙ kind_is _ _ c.table_in-t.ensures _ _ in
     let inside : c.in-Stored.offset + c.table_in-t.result.brick ≤ length c.args.file.now = rw (brick-is _ _ c.table_in-t.ensures)
     (stored_in _ _ _ _ entry_seen (sym named ∙ c.in-Stored.is)) in
     inside
 
 pub returns-in-Missing : goal.returns-in-Missing
 returns-in-Missing c =
-    let named : c.kind_at-kind.result ≡ kind_in c.args.r c.args.file.now c.args.entry = c.kind_at-kind.ensures ∙ kind_is _ _ c.table_in-t.ensures _ _ in
+    let named : c.kind_at.result ≡ kind_in c.args.r c.args.file.now c.args.entry = c.kind_at.ensures ∙ kind_is _ _ c.table_in-t.ensures _ _ in
     shows_filler _ _ (view_kind _ _ _ _ _ c.requires (sym named ∙ c.in-Missing.is))
     (brick-is _ _ c.table_in-t.ensures) refl refl
 
 pub returns-in-Constant : goal.returns-in-Constant
 returns-in-Constant c =
-    let named : c.kind_at-kind.result ≡ kind_in c.args.r c.args.file.now c.args.entry = c.kind_at-kind.ensures ∙ kind_is _ _ c.table_in-t.ensures _ _ in
+    let named : c.kind_at.result ≡ kind_in c.args.r c.args.file.now c.args.entry = c.kind_at.ensures ∙ kind_is _ _ c.table_in-t.ensures _ _ in
     shows_filler _ _ (view_kind _ _ _ _ _ c.requires (sym named ∙ c.in-Constant.is))
     (brick-is _ _ c.table_in-t.ensures) refl refl
 
 pub returns-in-Stored : goal.returns-in-Stored
 returns-in-Stored c =
-    let named : c.kind_at-kind.result ≡ kind_in c.args.r c.args.file.now c.args.entry = c.kind_at-kind.ensures ∙ kind_is _ _ c.table_in-t.ensures _ _ in
+    let named : c.kind_at.result ≡ kind_in c.args.r c.args.file.now c.args.entry = c.kind_at.ensures ∙ kind_is _ _ c.table_in-t.ensures _ _ in
     shows_file _ _ _ (view_kind _ _ _ _ _ c.requires (sym named ∙ c.in-Stored.is))
     (brick-is _ _ c.table_in-t.ensures) refl refl

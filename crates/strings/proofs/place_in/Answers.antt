@@ -11,8 +11,8 @@ loop-init c = (zero-le, refl)
 
 pub returns-then-text-at : goal.returns-then-text-at
 returns-then-text-at c =
-    place-stays _ _ c.loop.counter _ c.loop.counternvariant.0 c.loop.counternvariant.1 (omega arith)
+    place-stays _ _ c.loop.counter _ c.loop.invariant.0 c.loop.invariant.1 (omega arith)
 
 pub loop-preserved : goal.loop-preserved
 loop-preserved c =
-    (omega arith, ap (λ (x : ℕ). x + 1) c.end_at-at.ensures.end ∙ place-more _ _ c.loop.counter c.loop.counternvariant.1 (omega arith))
+    (omega arith, ap (λ (x : ℕ). x + 1) c.end_at-at.ensures.end ∙ place-more _ _ c.loop.counter c.loop.invariant.1 (omega arith))
