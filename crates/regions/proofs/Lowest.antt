@@ -4,7 +4,8 @@ use Prim.Native.Nat.{ℕ, zero, suc, ◌+◌, ◌-◌, ◌*◌, ◌/◌, ◌≤�
 use mathlib.Core.Path.{◌≡◌, refl, sym, ap, ◌∙◌}
 use mathlib.Core.Logic.{◌⊎◌, inl, inr}
 use mathlib.Core.Bool.{Bool, true, false, ◌&&◌, cond, false≢true}
-use mathlib.Core.Option.{none, some}
+use Rattle.std.specs.Prelude.{None, Some}
+use Rattle.std.specs.List.{find}
 use mathlib.Core.List.{List, [], ◌∷◌, ◌++◌}
 use native.Mathlib.Omega.{arith}
 use native.Mathlib.Nat.{le_refl, le_trans, le_step, add-zero, add-mul, add-sub_of_le, not-suc-le-zero, eq-or-lt_of_le, le_of_suc-le-suc, lt-div-mul-add, le-div_iff_mul-le, div-lt_iff_lt-mul, div-mul-le_self, mul-le-mul_right}
@@ -22,7 +23,7 @@ use Rattle.cube.specs.Regions.{start_of, run_of, place, touches}
 use Rattle.cube.proofs.Valid.{entries}
 use Rattle.cube.proofs.Places.{BrickIn, sides, cover, inside, brick-lt}
 use Rattle.cube.proofs.Regions.{Within, extents, digits_in, touches-place, touches_at}
-use Rattle.regions.specs.Search.{find, span}
+use Rattle.regions.specs.Search.{span}
 
 -- ---- lists that ascend
 
@@ -69,12 +70,11 @@ record FirstOf (t : ℕ → Bool) (l : List ℕ) (e : ℕ) : Type 0 where
   passes : t e ≡ true
   lowest : (e' : ℕ) → Mem e' l → t e' ≡ true → e ≤ e'
 
-first_of : (t : ℕ → Bool) (a b : ℕ) (l : List ℕ) → Asc a b l → (e : ℕ) → find t l ≡ some e → FirstOf t l e
-unfolding find
+first_of : (t : ℕ → Bool) (a b : ℕ) (l : List ℕ) → Asc a b l → (e : ℕ) → find t l ≡ Some e → FirstOf t l e
 first_of t a b [] h e f = let z : ◌≡◌ {A = ℕ} 0 1 = cc in absurd (omega arith)
 first_of t a b (x ∷ xs) h e f = go (t x) refl f (first_of t (suc x) b xs h.1 e)
   where
-    go : (c : Bool) → t x ≡ c → cond c (some x) (find t xs) ≡ some e → (find t xs ≡ some e → FirstOf t xs e) → FirstOf t (x ∷ xs) e
+    go : (c : Bool) → t x ≡ c → cond c (Some x) (find t xs) ≡ Some e → (find t xs ≡ Some e → FirstOf t xs e) → FirstOf t (x ∷ xs) e
     go true s k ih =
         let y : x ≡ e = cc in
         record { among = inl (sym y); passes = ap t (sym y) ∙ s; lowest = low y }
@@ -91,12 +91,11 @@ first_of t a b (x ∷ xs) h e f = go (t x) refl f (first_of t (suc x) b xs h.1 e
         low o e' (inr p) q = o.lowest e' p q
 
 -- what is found in no element of a list
-none_of : (t : ℕ → Bool) (l : List ℕ) → find t l ≡ none → (e : ℕ) → Mem e l → t e ≡ false
-unfolding find
+none_of : (t : ℕ → Bool) (l : List ℕ) → find t l ≡ None → (e : ℕ) → Mem e l → t e ≡ false
 none_of t [] f e m = absurd m
 none_of t (x ∷ xs) f e m = go (t x) refl f m (λ k h. none_of t xs k e h)
   where
-    go : (c : Bool) → t x ≡ c → cond c (some x) (find t xs) ≡ none → (e ≡ x) ⊎ Mem e xs → (find t xs ≡ none → Mem e xs → t e ≡ false) → t e ≡ false
+    go : (c : Bool) → t x ≡ c → cond c (Some x) (find t xs) ≡ None → (e ≡ x) ⊎ Mem e xs → (find t xs ≡ None → Mem e xs → t e ≡ false) → t e ≡ false
     go true s k m ih = let z : ◌≡◌ {A = ℕ} 0 1 = cc in absurd (omega arith)
     go false s k (inl q) ih = ap t q ∙ s
     go false s k (inr h) ih = ih k h
@@ -290,7 +289,7 @@ module _ (r : Record) (ok : Fit r) (g : Region) where
             let d = digits_in g t.0 t.1 in
             h (rw t.2 at (touched_has _ _ _ d.0 d.1 d.2))
 
-    pub lowest-found : (e : ℕ) → find bad (touched r g) ≡ some e → (first both (entries r) ≡ e) × (e < entries r)
+    pub lowest-found : (e : ℕ) → find bad (touched r g) ≡ Some e → (first both (entries r) ≡ e) × (e < entries r)
     lowest-found e f =
         let l : FirstOf bad (touched r g) e = first_of bad _ _ (touched r g) (touched_ascends r ok g w) e f in
         let b : e < entries r = is_below e l.among in
@@ -300,5 +299,5 @@ module _ (r : Record) (ok : Fit r) (g : Region) where
         not_bad l j h m true q = absurd (omega (arith, l.lowest j m q))
         not_bad l j h m false q = q
 
-    pub lowest-none : find bad (touched r g) ≡ none → first both (entries r) ≡ entries r
+    pub lowest-none : find bad (touched r g) ≡ None → first both (entries r) ≡ entries r
     lowest-none f = first-is both (entries r) (entries r) (le_refl (entries r)) (λ j h. passes j (none_of bad (touched r g) f j)) (λ h. absurd (omega arith))

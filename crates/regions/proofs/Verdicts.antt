@@ -6,7 +6,10 @@ use Prim.Native.Nat.{ℕ, ◌<◌}
 use native.Mathlib.Nat.{le_refl}
 use native.Mathlib.Omega.{arith}
 use borrow.Author.Tests.{lt-ltb, le-ltb}
-use Rattle.record.specs.Answers.{refused_at}
+use Rattle.record.specs.Answers.{refused}
+use Rattle.record.specs.declared.Refusal.{Refusal}
+use Rattle.std.specs.Prelude.{Option, None, Some}
+use Rattle.std.specs.List.{find}
 use Rattle.record.specs.declared.Record.{Record}
 use Rattle.record.specs.Answers.{Verdict}
 use Rattle.record.specs.Answers.{Taken}
@@ -16,14 +19,12 @@ use Rattle.runs.specs.Runs.{Allowed}
 use Rattle.cube.specs.declared.Region.{Region}
 use Rattle.cube.specs.Regions.{in_extent, touches, unless_touched, not_stored}
 use Rattle.cube.proofs.Valid.{entries}
-use Rattle.regions.specs.declared.Found.{Found}
-use Rattle.regions.specs.declared.Found.TheVariants.{At, Nothing}
 use Rattle.table.specs.Entries.{table_in, breaks12, Readable}
 use Rattle.table.specs.declared.Table.{Table}
 use Rattle.table.proofs.Tables.{fits_derived, derived_readable}
 use Rattle.regions.specs.declared.Block.{Block}
-use Rattle.regions.specs.Search.{find, found_of, fails, entries_in, Below, block_of, Passed, rest}
-use Rattle.regions.proofs.Finds.{find_agree, found_at, found_nothing}
+use Rattle.regions.specs.Search.{fails, entries_in, Below, block_of, Passed, rest}
+use Rattle.regions.proofs.Finds.{find_agree}
 use Rattle.regions.proofs.Lowest.{touched, lowest-found, lowest-none}
 use Rattle.regions.proofs.Blocks.{fit_of, within_of, block_touched, block_below, fails-is}
 use Rattle.record.specs.declared.Refusal.TheVariants as refusal
@@ -42,23 +43,23 @@ module _ (r : Record) (g : Region) (p : Passed r g) (t : Table) (b : Block) (et 
   unfolding table_in
   search_below = rw (et, eb) (block_below r g p)
 
-  module _ (f : List ℕ) (stored : Bool) (answer : Found) (q : answer ≡ found_of (find (fails stored t f) (entries_in b))) where
-    searched : answer ≡ found_of (find (bad r f stored) (touched r g))
+  module _ (f : List ℕ) (stored : Bool) (answer : Option ℕ) (q : answer ≡ find (fails stored t f) (entries_in b)) where
+    searched : answer ≡ find (bad r f stored) (touched r g)
     searched =
         q
         ∙ rw (et, eb)
-        (ap found_of (find_agree (fails stored (table_in r) f) (bad r f stored) (fails-is r f stored) (entries_in (block_of r g)) ∙ ap (find (bad r f stored)) (block_touched r g)))
+        (find_agree (fails stored (table_in r) f) (bad r f stored) (fails-is r f stored) (entries_in (block_of r g)) ∙ ap (find (bad r f stored)) (block_touched r g))
 
     -- a refusal with the entry that was found
-    pub refused_at_lem : (n e : ℕ) (later : Verdict) → answer ≡ At e → refused_at n e ≡ unless_touched r n (touches r g) (bad r f stored) later
-    refused_at_lem n e later found =
-        let l = lowest-found r (fit_of r g p) g (within_of r g p) (bad r f stored) e (found_at _ e (sym searched ∙ found)) in
+    pub refused_at_lem : (check : ℕ → Refusal) (e : ℕ) (later : Verdict) → answer ≡ Some e → refused (check e) ≡ unless_touched r check (touches r g) (bad r f stored) later
+    refused_at_lem check e later found =
+        let l = lowest-found r (fit_of r g p) g (within_of r g p) (bad r f stored) e (sym searched ∙ found) in
         rw (l.0, lt-ltb e (entries r) l.1)
 
     -- or the later checks
-    pub passed_on : (n : ℕ) (later : Verdict) → answer ≡ Nothing → later ≡ unless_touched r n (touches r g) (bad r f stored) later
-    passed_on n later found =
-        rw (lowest-none r (fit_of r g p) g (within_of r g p) (bad r f stored) (found_nothing _ (sym searched ∙ found)), le-ltb (entries r) (entries r) (le_refl (entries r)))
+    pub passed_on : (check : ℕ → Refusal) (later : Verdict) → answer ≡ None → later ≡ unless_touched r check (touches r g) (bad r f stored) later
+    passed_on check later found =
+        rw (lowest-none r (fit_of r g p) g (within_of r g p) (bad r f stored) (sym searched ∙ found), le-ltb (entries r) (entries r) (le_refl (entries r)))
 
 pub rest_read : (write : Bool) (r : Record) (f : List ℕ) (g : Region) → write ≡ false → Taken ≡ rest write r f g
 rest_read write r f g e = rw e

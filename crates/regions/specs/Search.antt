@@ -1,7 +1,6 @@
 -- For the private functions of regions alone: the entries that a region touches as a block of entry numbers, and the search over them for
 -- checks 12 and 19.
 use Rattle.std.specs.Prelude.{Bool, true, not, cond, List, [], ◌∷◌, ◌≡◌, ℕ, suc, ◌+◌, ◌-◌, ◌*◌, ◌/◌, ◌≤◌, ◌<◌}
-use Rattle.std.proofs.Math.Option.{Option, none, some}
 use Rattle.endian.specs.Loops.{cat}
 use Rattle.record.specs.Record.{side_of, bricks_along}
 use Rattle.record.specs.declared.Record.{Record}
@@ -13,21 +12,9 @@ use Rattle.table.specs.declared.Table.{Table}
 use Rattle.cube.specs.declared.Region.{Region}
 use Rattle.cube.specs.Places.{entry_in}
 use Rattle.cube.specs.Regions.{start_of, run_of, in_extent, touches, unless_touched, is_stored, not_stored}
-use Rattle.regions.specs.declared.Found.{Found}
-use Rattle.regions.specs.declared.Found.TheVariants.{At, Nothing}
 use Rattle.regions.specs.declared.Along.{Along}
 use Rattle.regions.specs.declared.Block.{Block}
 use Rattle.record.specs.declared.Refusal.TheVariants as refusal
-
--- the first of a list that passes
-unfoldable pub find : (ℕ → Bool) → List ℕ → Option ℕ
-find t [] = none
-find t (x ∷ xs) = cond (t x) (some x) (find t xs)
-
--- what a search says of the entry that it found
-abbrev pub found_of : Option ℕ → Found
-found_of none = Nothing
-found_of (some e) = At e
 
 -- ---- one entry
 

@@ -3,28 +3,23 @@
 #![tactic(auto)]
 
 ghost use Rattle.std.specs.Prelude.{◌≡◌, true, ◌&&◌, ◌+◌, ◌*◌, ◌≤◌, ◌<◌, leb, length};
+ghost use Rattle.std.specs.List.{find};
 ghost use Rattle.geometry.specs.Limits.{size_limit, level_cap};
 ghost use Rattle.geometry.specs.Geometry.{extent};
+ghost use Rattle.record.specs.declared.Refusal.TheVariants as refusal;
 ghost use Rattle.runs.specs.Runs.{Allowed};
 ghost use Rattle.checks.specs.Checks.{side_ok};
 ghost use Rattle.checks.specs.Fits.{record_fits};
 ghost use Rattle.table.specs.Entries.{breaks12, Readable};
 ghost use Rattle.cube.specs.Regions.{size_of, in_extent, touches, unless_touched, is_stored, region_verdict, raw_verdict, float_verdict, write_verdict};
-ghost use Rattle.regions.specs.Search.{find, found_of, fails, row_from, layer_from, entries_in, LayerBelow, Below, along_of, block_of, Passed, rest};
+ghost use Rattle.regions.specs.Search.{fails, row_from, layer_from, entries_in, LayerBelow, Below, along_of, block_of, Passed, rest};
 
 use checks::check14_with;
 use cube::Region;
 use geometry::{entry_at, extent_at};
-use record::{Record, Verdict, refuse, refuse_at, width_of};
+use record::{Record, Refusal, width_of};
 use runs::{index, level_in, over};
 use table::{Kind, Table, kind_at, out_of_range, table_in};
-
-// What a search over entries finds: the first that fails, or none.
-#[derive(Clone, Copy)]
-enum Found {
-    At(u32),
-    Nothing,
-}
 
 // The bricks that a run of samples touches in a direction.
 #[derive(Clone, Copy)]
@@ -44,19 +39,12 @@ struct Block {
     layer: u64,
 }
 
-// A number of 32 bits, for sums and products in 64.
-fn wide(x: u32) -> u64
-    ensures { (result ≡ x) × (result < 4294967296) }
-{
-    x as u64
-}
-
 // A run has a sample and lies in the level's extent. A start and a count of 32 bits each are added in 64.
 fn run_inside(start: u32, count: u32, size: u32, level: u32) -> bool
     requires { (1 ≤ size) × (level ≤ level_cap) }
     ensures { result ≡ leb 1 count && leb (start + count) (extent size level) }
 {
-    (1 <= count) & (wide(start) + wide(count) <= extent_at(size, wide(level)))
+    (1 <= count) & (u64::from(start) + u64::from(count) <= extent_at(size, u64::from(level)))
 }
 
 // The region lies in its level.
@@ -64,13 +52,10 @@ fn in_extent(r: Record, g: Region) -> bool
     requires { Allowed r g }
     ensures { result ≡ in_extent r g }
 {
-    let d = r.description;
-    let size = d.size;
-    let start = g.start;
-    let count = g.count;
-    run_inside(start[0], count[0], size[0], g.level)
-        & run_inside(start[1], count[1], size[1], g.level)
-        & run_inside(start[2], count[2], size[2], g.level)
+    let size = r.description.size;
+    run_inside(g.start[0], g.count[0], size[0], g.level)
+        & run_inside(g.start[1], g.count[1], size[1], g.level)
+        & run_inside(g.start[2], g.count[2], size[2], g.level)
 }
 
 // The room that a by b by c samples take, of `item` each.
@@ -78,7 +63,7 @@ fn room_for(a: u32, b: u32, c: u32, item: u32) -> u64
     requires { (a ≤ size_limit) × (b ≤ size_limit) × (c ≤ size_limit) × (item ≤ 4) }
     ensures { result ≡ a * b * c * item }
 {
-    wide(a) * wide(b) * wide(c) * wide(item)
+    u64::from(a) * u64::from(b) * u64::from(c) * u64::from(item)
 }
 
 // The room that a region takes.
@@ -86,8 +71,7 @@ fn needed(r: Record, g: Region, item: u32) -> u64
     requires { Passed r g × (item ≤ 4) }
     ensures { result ≡ size_of g * item }
 {
-    let count = g.count;
-    room_for(count[0], count[1], count[2], item)
+    room_for(g.count[0], g.count[1], g.count[2], item)
 }
 
 // The bricks of this side that a run touches.
@@ -109,14 +93,11 @@ fn block_of(r: Record, g: Region) -> Block
     requires { Passed r g }
     ensures { result ≡ block_of r g }
 {
-    let d = r.description;
-    let side = d.side;
-    let start = g.start;
-    let count = g.count;
-    let v = level_in(d, r.bricks, g.level);
-    let x = bricks_along(side[0], start[0], count[0]);
-    let y = bricks_along(side[1], start[1], count[1]);
-    let z = bricks_along(side[2], start[2], count[2]);
+    let side = r.description.side;
+    let v = level_in(r.description, r.bricks, g.level);
+    let x = bricks_along(side[0], g.start[0], g.count[0]);
+    let y = bricks_along(side[1], g.start[1], g.count[1]);
+    let z = bricks_along(side[2], g.start[2], g.count[2]);
     Block {
         first: entry_at(v, x.first, y.first, z.first),
         inline: x.span,
@@ -149,112 +130,109 @@ fn entry_fails(file: &[u8], t: Table, entry: u64, stored: bool) -> bool
 }
 
 // The first entry that fails, of a row along inline from this entry on.
-fn search_row(file: &[u8], t: Table, from: u64, count: u64, stored: bool) -> Found
+fn search_row(file: &[u8], t: Table, from: u64, count: u64, stored: bool) -> Option<u32>
     requires { Readable t (length file.now) × (from + count ≤ t.count) }
-    ensures { result ≡ found_of (find (fails stored t file.now) (row_from from count)) }
+    ensures { result ≡ find (fails stored t file.now) (row_from from count) }
 {
-    let mut x = 0;
-    while x < count {
+    for x in 0..count {
         if entry_fails(file, t, from + x, stored) {
-            return Found::At((from + x) as u32);
+            return Some((from + x) as u32);
         }
-        x += 1;
     }
-    Found::Nothing
+    None
 }
 
 // The first that fails of the rows of a layer, one after the other crossline.
-fn search_layer(file: &[u8], t: Table, b: Block, from: u64, stored: bool) -> Found
+fn search_layer(file: &[u8], t: Table, b: Block, from: u64, stored: bool) -> Option<u32>
     requires { Readable t (length file.now) × (from ≤ t.count) × LayerBelow b from t.count }
-    ensures { result ≡ found_of (find (fails stored t file.now) (layer_from b from)) }
+    ensures { result ≡ find (fails stored t file.now) (layer_from b from) }
 {
-    let mut y = 0;
-    while y < b.crossline {
+    for y in 0..b.crossline {
         let found = search_row(file, t, from + y * b.row, b.inline, stored);
-        if let Found::At(entry) = found {
-            return Found::At(entry);
+        if found.is_some() {
+            return found;
         }
-        y += 1;
     }
-    Found::Nothing
+    None
 }
 
 // The first that fails of the layers of a block, one after the other vertical.
-fn search(file: &[u8], t: Table, b: Block, stored: bool) -> Found
+fn search(file: &[u8], t: Table, b: Block, stored: bool) -> Option<u32>
     requires { Readable t (length file.now) × Below b t.count }
-    ensures { result ≡ found_of (find (fails stored t file.now) (entries_in b)) }
+    ensures { result ≡ find (fails stored t file.now) (entries_in b) }
 {
-    let mut z = 0;
-    while z < b.vertical {
+    for z in 0..b.vertical {
         let found = search_layer(file, t, b, b.first + z * b.layer, stored);
-        if let Found::At(entry) = found {
-            return Found::At(entry);
+        if found.is_some() {
+            return found;
         }
-        z += 1;
     }
-    Found::Nothing
+    None
 }
 
 // Checks 12 and, for a write, 19 over the touched entries.
-fn check_entries(file: &[u8], r: Record, g: Region, write: bool) -> Verdict
+fn check_entries(file: &[u8], r: Record, g: Region, write: bool) -> Result<(), Refusal>
     requires { Passed r g × (r.length ≡ length file.now) }
-    ensures { result ≡ unless_touched r 12 (touches r g) (breaks12 r file.now) (rest write r file.now g) }
+    ensures { result ≡ unless_touched r refusal.Range (touches r g) (breaks12 r file.now) (rest write r file.now g) }
 {
     let t = table_in(r);
     let b = block_of(r, g);
-    let bad = search(file, t, b, false);
-    if let Found::At(entry) = bad {
-        return refuse_at(12, entry);
+    if let Some(entry) = search(file, t, b, false) {
+        return Err(Refusal::Range(entry));
     }
     if !write {
-        return Verdict::Taken;
+        return Ok(());
     }
-    let unstored = search(file, t, b, true);
-    match unstored {
-        Found::At(entry) => refuse_at(19, entry),
-        Found::Nothing => Verdict::Taken,
+    match search(file, t, b, true) {
+        Some(entry) => Err(Refusal::NotStored(entry)),
+        None => Ok(()),
     }
 }
 
 // The checks of a call on a region. A sample takes `item` of what room counts, bytes or floats.
-fn check_region(file: &[u8], r: Record, g: Region, room: usize, item: u32, write: bool) -> Verdict
+fn check_region(
+    file: &[u8],
+    r: Record,
+    g: Region,
+    room: usize,
+    item: u32,
+    write: bool,
+) -> Result<(), Refusal>
     requires { item ≤ 4 }
     ensures { result ≡ region_verdict r file.now g room (size_of g * item) (rest write r file.now g) }
 {
     if check14_with(r, file.len() as u64) {
-        return refuse(14);
+        return Err(Refusal::Record);
     }
     if r.levels <= g.level {
-        return refuse(15);
+        return Err(Refusal::Level);
     }
     if !in_extent(r, g) {
-        return refuse(16);
+        return Err(Refusal::Index);
     }
     if (room as u64) < needed(r, g, item) {
-        return refuse(18);
+        return Err(Refusal::Room);
     }
     check_entries(file, r, g, write)
 }
 
 // The checks of a raw read into a buffer of room bytes.
-pub fn raw_verdict(file: &[u8], r: Record, g: Region, room: usize) -> Verdict
+pub fn raw_verdict(file: &[u8], r: Record, g: Region, room: usize) -> Result<(), Refusal>
     ensures { result ≡ raw_verdict r file.now g room }
 {
-    let d = r.description;
-    check_region(file, r, g, room, width_of(d.datatype), false)
+    check_region(file, r, g, room, width_of(r.description.datatype), false)
 }
 
 // The checks of a float read into a buffer of room floats.
-pub fn float_verdict(file: &[u8], r: Record, g: Region, room: usize) -> Verdict
+pub fn float_verdict(file: &[u8], r: Record, g: Region, room: usize) -> Result<(), Refusal>
     ensures { result ≡ float_verdict r file.now g room }
 {
     check_region(file, r, g, room, 1, false)
 }
 
 // The checks of a write of room lent bytes.
-pub fn write_verdict(file: &[u8], r: Record, g: Region, room: usize) -> Verdict
+pub fn write_verdict(file: &[u8], r: Record, g: Region, room: usize) -> Result<(), Refusal>
     ensures { result ≡ write_verdict r file.now g room }
 {
-    let d = r.description;
-    check_region(file, r, g, room, width_of(d.datatype), true)
+    check_region(file, r, g, room, width_of(r.description.datatype), true)
 }

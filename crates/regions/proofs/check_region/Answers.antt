@@ -5,11 +5,11 @@ use Rattle.regions.proofs.Verdicts.{allowed_of, passed_of}
 use Rattle.regions.proofs.check_region.Goals as goal
 
 pub returns-then-check14_with : goal.returns-then-check14_with
-returns-then-check14_with c = c.refuse.ensures ∙ stop14 _ _ _ _ _ _ (sym c.check14_with.ensures ∙ c.if-check14_with.true)
+returns-then-check14_with c = stop14 _ _ _ _ _ _ (sym c.check14_with.ensures ∙ c.if-check14_with.true)
 
 pub returns-then-r-g : goal.returns-then-r-g
 returns-then-r-g c =
-    c.refuse-then-r-g.ensures ∙ stop15 c.args.r c.args.file.now c.args.g _ _ _ (sym c.check14_with.ensures ∙ c.if-check14_with.false) (omega (arith, c.if-r-g.true))
+    stop15 c.args.r c.args.file.now c.args.g _ _ _ (sym c.check14_with.ensures ∙ c.if-check14_with.false) (omega (arith, c.if-r-g.true))
 
 pub in_extent-requires : goal.in_extent-requires
 in_extent-requires c =
@@ -17,7 +17,7 @@ in_extent-requires c =
 
 pub returns-then-not-in_extent : goal.returns-then-not-in_extent
 returns-then-not-in_extent c =
-    c.refuse-then-not-in_extent.ensures ∙ stop16 _ _ _ _ _ _ (sym c.check14_with.ensures ∙ c.if-check14_with.false) c.if-r-g.false (sym c.in_extent.ensures ∙ c.if-not-in_extent.true)
+    stop16 _ _ _ _ _ _ (sym c.check14_with.ensures ∙ c.if-check14_with.false) c.if-r-g.false (sym c.in_extent.ensures ∙ c.if-not-in_extent.true)
 
 pub needed-requires : goal.needed-requires
 needed-requires c =
@@ -25,7 +25,7 @@ needed-requires c =
 
 pub returns-then-room-needed : goal.returns-then-room-needed
 returns-then-room-needed c =
-    c.refuse-then-room-needed.ensures ∙ stop18 _ _ _ _ _ _ (sym c.check14_with.ensures ∙ c.if-check14_with.false) c.if-r-g.false (sym c.in_extent.ensures ∙ c.if-not-in_extent.false)
+    stop18 _ _ _ _ _ _ (sym c.check14_with.ensures ∙ c.if-check14_with.false) c.if-r-g.false (sym c.in_extent.ensures ∙ c.if-not-in_extent.false)
     (rw (← c.needed.ensures) c.if-room-needed.true)
 
 pub check_entries-requires : goal.check_entries-requires
