@@ -1,14 +1,16 @@
 -- A buffer filled item by item, and what a type number says of its items. Assumes nothing.
-use Prim.Native.Nat.{ℕ, ◌+◌, ◌*◌, ◌≤◌, ◌<◌}
+use Prim.Native.Nat.{ℕ, zero, suc, ◌+◌, ◌*◌, ◌≤◌, ◌<◌}
 use mathlib.Core.Path.{◌≡◌, refl, sym, ap, ◌∙◌}
 use mathlib.Core.Logic.{inl, inr, ⊎_elim}
 use mathlib.Core.List.{List, [], ◌∷◌, ◌++◌}
 use native.Mathlib.Omega.{arith}
 use lib.Ieee.{Float}
-use lib.ListN.{length, get_or, set}
+use lib.ListN.{length, get_or, set, replicate}
 use Rattle.endian.specs.Loops.{cat}
 use Rattle.endian.specs.Bytes.{le}
 use Rattle.record.specs.Types.{coding_of, item_width, width_of, decode_by, decode_of}
+use Rattle.std.specs.Prelude.{Result, Ok}
+use Rattle.record.specs.declared.Refusal.{Refusal}
 use Rattle.record.specs.declared.Coding.{Coding}
 use Rattle.record.specs.declared.Coding.TheVariants.{Scaled, Float32}
 use Rattle.record.proofs.Laws.{coding_each, scaled_is}
@@ -25,6 +27,16 @@ module _ {A : Type 0} (g : ℕ → A) where
   pub items-all : {d out : List A} {n : ℕ} → Filled d (cat n (λ t. g t ∷ [])) out n → length out ≤ n → out ≡ cat (length d) (λ t. g t ∷ [])
   items-all {n = n} f l = filled_all f (omega (arith, f.size)) ∙ ap (λ m. cat m (λ t. g t ∷ [])) (omega (arith, f.size, f.within))
 
+-- a value again and again
+replicate_more : {A : Type 0} (v : A) (n : ℕ) → replicate n v ++ (v ∷ []) ≡ v ∷ replicate n v
+replicate_more v zero = refl
+replicate_more v (suc n) = ap (λ l. v ∷ l) (replicate_more v n)
+
+pub replicate_cat : {A : Type 0} (v : A) (n : ℕ) → replicate n v ≡ cat n (λ _. v ∷ [])
+unfolding cat
+replicate_cat v zero = refl
+replicate_cat v (suc n) = sym (replicate_more v n) ∙ ap (λ l. l ++ (v ∷ [])) (replicate_cat v n)
+
 -- ---- what a type number says
 
 -- one byte is a number of one byte
@@ -35,15 +47,15 @@ one s at = omega arith
 -- the integer types, and the float type
 module _ (k w h : ℕ) where
   -- of one byte, and of more
-  pub int8_is : coding_of k ≡ Scaled w h → w ≡ 1 → coding_of k ≡ Scaled 1 128
+  pub int8_is : coding_of k ≡ Ok (Scaled w h) → w ≡ 1 → coding_of k ≡ Ok (Scaled 1 128)
   int8_is e one = ⊎_elim (λ (q : (w ≡ 1) × (h ≡ 128)). rw (q.0, q.1) at e) (λ (q : (w ≡ 2) × (h ≡ 32768)). absurd (omega arith)) (scaled_is k w h e)
 
-  pub int16_is : coding_of k ≡ Scaled w h → (w ≡ 1 → ⊥) → coding_of k ≡ Scaled 2 32768
+  pub int16_is : coding_of k ≡ Ok (Scaled w h) → (w ≡ 1 → ⊥) → coding_of k ≡ Ok (Scaled 2 32768)
   int16_is e more = ⊎_elim (λ (q : (w ≡ 1) × (h ≡ 128)). absurd (more q.0)) (λ (q : (w ≡ 2) × (h ≡ 32768)). rw (q.0, q.1) at e) (scaled_is k w h e)
 
-pub float_is : (k w : ℕ) → coding_of k ≡ Float32 w → coding_of k ≡ Float32 4
+pub float_is : (k w : ℕ) → coding_of k ≡ Ok (Float32 w) → coding_of k ≡ Ok (Float32 4)
 float_is k w =
-    coding_each (λ k x. x ≡ Float32 w → x ≡ Float32 4) (λ q. let z : ◌≡◌ {A = ℕ} 0 1 = cc in absurd (omega arith))
+    coding_each (λ k x. x ≡ Ok (Float32 w) → x ≡ Ok (Float32 4)) (λ q. let z : ◌≡◌ {A = ℕ} 0 1 = cc in absurd (omega arith))
     (λ q. let z : ◌≡◌ {A = ℕ} 0 1 = cc in absurd (omega arith))
     (λ q. refl)
     (λ k q. let z : ◌≡◌ {A = ℕ} 0 1 = cc in absurd (omega arith))
@@ -56,7 +68,7 @@ pub int16 : Integers 2 32768
 int16 = record { wide = inr (inl refl); some = omega arith; few = omega arith; all = refl }
 
 -- items of a type, by what its number says
-module _ (k : ℕ) (x : Coding) (e : coding_of k ≡ x) where
+module _ (k : ℕ) (x : Result Coding Refusal) (e : coding_of k ≡ x) where
   pub width_as : width_of k ≡ item_width x
   unfolding width_of
   width_as = ap item_width e
@@ -64,4 +76,4 @@ module _ (k : ℕ) (x : Coding) (e : coding_of k ≡ x) where
   pub decoded_as : (min max : Float) (bytes : List ℕ) (m : ℕ)
       → cat m (λ n. decode_by x min max (le (item_width x) bytes (n * item_width x)) ∷ []) ≡ cat m (λ n. decode_of k min max (le (width_of k) bytes (n * width_of k)) ∷ [])
   unfolding decode_of width_of
-  decoded_as min max bytes m = ap (λ (y : Coding). cat m (λ n. decode_by y min max (le (item_width y) bytes (n * item_width y)) ∷ [])) (sym e)
+  decoded_as min max bytes m = ap (λ (y : Result Coding Refusal). cat m (λ n. decode_by y min max (le (item_width y) bytes (n * item_width y)) ∷ [])) (sym e)

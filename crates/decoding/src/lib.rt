@@ -30,10 +30,8 @@ fn decode_scaled(out: &mut [f64], bytes: &[u8], width: usize, half: u32, min: f6
     requires { Integers width half × (length bytes.now ≡ length out.old * width) }
     ensures { out.new ≡ cat (length out.old) (λ n. scaled_of half min max (le width bytes.now (n * width)) ∷ []) }
 {
-    let mut n = 0;
-    while n < out.len() {
+    for n in 0..out.len() {
         out[n] = scaled(item(bytes, n * width, width), half, min, max);
-        n += 1;
     }
 }
 
@@ -42,10 +40,8 @@ fn decode_widened(out: &mut [f64], bytes: &[u8], width: usize)
     requires { Width width × (length bytes.now ≡ length out.old * width) }
     ensures { out.new ≡ cat (length out.old) (λ n. widened_of (le width bytes.now (n * width)) ∷ []) }
 {
-    let mut n = 0;
-    while n < out.len() {
+    for n in 0..out.len() {
         out[n] = widen_bits(item(bytes, n * width, width));
-        n += 1;
     }
 }
 
@@ -55,17 +51,16 @@ pub fn decode(out: &mut [f64], bytes: &[u8], datatype: u8, min: f64, max: f64)
     requires { (no_type (coding_of datatype) ≡ false) × (length bytes.now ≡ length out.old * width_of datatype) }
     ensures { out.new ≡ cat (length out.old) (λ n. decode_of datatype min max (le (width_of datatype) bytes.now (n * width_of datatype)) ∷ []) }
 {
-    let coding = coding_of(datatype);
-    match coding {
-        Coding::Scaled { width, half: _ } => {
+    match coding_of(datatype) {
+        Ok(Coding::Scaled { width, half: _ }) => {
             if width == 1 {
                 decode_scaled(out, bytes, 1, 128, min, max);
             } else {
                 decode_scaled(out, bytes, 2, 32768, min, max);
             }
         }
-        Coding::Float32 { width: _ } => decode_widened(out, bytes, 4),
-        Coding::NoType(_) => {}
+        Ok(Coding::Float32 { width: _ }) => decode_widened(out, bytes, 4),
+        Err(_) => {}
     }
 }
 
@@ -74,11 +69,10 @@ pub fn decode_one(datatype: u8, raw: u32, min: f64, max: f64) -> f64
     requires { raw < 256 ^ width_of datatype }
     ensures { result ≡ decode_of datatype min max raw }
 {
-    let coding = coding_of(datatype);
-    match coding {
-        Coding::Scaled { width: _, half } => scaled(raw, half, min, max),
-        Coding::Float32 { width: _ } => widen_bits(raw),
-        Coding::NoType(_) => widen_bits(raw),
+    match coding_of(datatype) {
+        Ok(Coding::Scaled { width: _, half }) => scaled(raw, half, min, max),
+        Ok(Coding::Float32 { width: _ }) => widen_bits(raw),
+        Err(_) => widen_bits(raw),
     }
 }
 
@@ -86,9 +80,5 @@ pub fn decode_one(datatype: u8, raw: u32, min: f64, max: f64) -> f64
 pub fn fill_floats(out: &mut [f64], value: f64)
     ensures { out.new ≡ cat (length out.old) (λ n. value ∷ []) }
 {
-    let mut n = 0;
-    while n < out.len() {
-        out[n] = value;
-        n += 1;
-    }
+    out.fill(value);
 }

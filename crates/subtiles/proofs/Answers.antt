@@ -7,20 +7,21 @@ use lib.Dec.{ltb}
 use borrow.Author.Tests.{ltb-false}
 use Rattle.endian.proofs.Search.{clash}
 use Rattle.subtiles.specs.Subtiles.{breaks20}
-use Rattle.subtiles.specs.Answers.{refused, bytes_in, breaks18, permute_answer, buffer_after}
+use Rattle.subtiles.specs.Answers.{bytes_in, breaks18, permute_answer, buffer_after}
 use Rattle.record.specs.Answers.{Done}
+use Rattle.std.specs.Prelude.{Ok, Err}
 use Rattle.record.specs.declared.Refusal.TheVariants as refusal
 
 module _ (side : List ℕ) (w from into : ℕ) where
-  pub answer_20 : breaks20 side w ≡ true → permute_answer side w from into ≡ refused refusal.Subtiles
+  pub answer_20 : breaks20 side w ≡ true → permute_answer side w from into ≡ Err refusal.Subtiles
   unfolding permute_answer
   answer_20 e = rw e
 
-  pub answer_18 : {n : ℕ} → n ≡ bytes_in side w → breaks20 side w ≡ false → breaks18 n from into ≡ true → permute_answer side w from into ≡ refused refusal.Room
+  pub answer_18 : {n : ℕ} → n ≡ bytes_in side w → breaks20 side w ≡ false → breaks18 n from into ≡ true → permute_answer side w from into ≡ Err refusal.Room
   unfolding permute_answer
   answer_18 n e b = rw (e, ← n, b)
 
-  pub answer-taken : {n : ℕ} → n ≡ bytes_in side w → breaks20 side w ≡ false → breaks18 n from into ≡ false → permute_answer side w from into ≡ Taken n
+  pub answer-taken : {n : ℕ} → n ≡ bytes_in side w → breaks20 side w ≡ false → breaks18 n from into ≡ false → permute_answer side w from into ≡ Ok n
   unfolding permute_answer
   answer-taken n e b = rw (e, ← n, b)
 

@@ -7,10 +7,6 @@ use Rattle.record.specs.declared.Refusal.TheVariants as refusal
 use Rattle.std.specs.Prelude.{Ok}
 use Rattle.std.specs.Prelude.{Err}
 
--- refused by check n
-abbrev pub refused : ℕ → Done
-refused n = refused (record { number = n; entry = 0 })
-
 -- the bytes of a brick with these sides
 abbrev pub bytes_in : List ℕ → ℕ → ℕ
 bytes_in side w = brick_bytes (get_or side 0 0) (get_or side 1 0) (get_or side 2 0) w
@@ -30,13 +26,13 @@ breaks18 bytes from into = ltb from bytes || ltb into bytes
 -- checks 20 and 18 in this order, over a brick lent in from bytes and a buffer of into bytes
 unfoldable pub permute_answer : List ℕ → ℕ → ℕ → ℕ → Done
 permute_answer side w from into =
-    cond (breaks20 side w) (refused refusal.Subtiles)
-    (cond (breaks18 (bytes_in side w) from into) (refused refusal.Room)
-    (Taken (bytes_in side w)))
+    cond (breaks20 side w) (Err refusal.Subtiles)
+    (cond (breaks18 (bytes_in side w) from into) (Err refusal.Room)
+    (Ok (bytes_in side w)))
 
 -- the buffer after the call: the brick as moved and the bytes past it, or the buffer itself where the call is refused
 abbrev pub buffer_after : Done → List ℕ → List ℕ → List ℕ
-buffer_after ((Ok u) n) moved buffer = moved ++ drop n buffer
+buffer_after (Ok n) moved buffer = moved ++ drop n buffer
 buffer_after (Err x) moved buffer = buffer
 
 -- the buffer after a brick is put in plain order, and in the version 1 order

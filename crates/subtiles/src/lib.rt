@@ -6,22 +6,16 @@ ghost use Rattle.endian.specs.Loops.{cat};
 ghost use Rattle.endian.specs.Bytes.{peek};
 ghost use Rattle.geometry.specs.Limits.{side_room};
 ghost use Rattle.subtiles.specs.Subtiles.{breaks20};
-ghost use Rattle.subtiles.specs.Answers.{refused, permute_answer, buffer_after, plain_buffer, subtiled_buffer};
+ghost use Rattle.subtiles.specs.Answers.{permute_answer, buffer_after, plain_buffer, subtiled_buffer};
 ghost use Rattle.subtiles.specs.Runs.{tiled_run, plain_run, source_run, moved_in, Movable};
 ghost use Rattle.subtiles.specs.Laws.{IsPermutation, ThereAndBack};
 
 use endian::copy;
 use geometry::{LEAST_EXPONENT, brick_bytes, power_in};
-use record::{Done, Refusal};
+use record::Refusal;
 
 // Whole subtiles fill a side of 2^3 and more.
 const TILE_EXPONENT: u32 = 3;
-
-fn refuse(number: u32) -> Done
-    ensures { result ≡ refused number }
-{
-    Done::Refused(Refusal { number, entry: 0 })
-}
 
 fn breaks_20(side: [u32; 3], width: u32) -> bool
     ensures { result ≡ breaks20 side width }
@@ -86,12 +80,12 @@ fn move_runs(out: &mut [u8], brick: &[u8], plain: bool, n1: usize, runs: usize, 
 }
 
 // The move in either direction: the checks, then the runs, into the front of the buffer.
-fn permute(out: &mut [u8], brick: &[u8], side: [u32; 3], width: u32, plain: bool) -> Done
+fn permute(out: &mut [u8], brick: &[u8], side: [u32; 3], width: u32, plain: bool) -> Result<u64, Refusal>
     ensures value { result ≡ permute_answer side width (length brick.now) (length out.old) }
     ensures out_after { out.new ≡ buffer_after (permute_answer side width (length brick.now) (length out.old)) (moved_in plain side width brick.now) out.old }
 {
     if breaks_20(side, width) {
-        return refuse(20);
+        return Err(Refusal::Subtiles);
     }
     let n0 = side[0] as usize;
     let n1 = side[1] as usize;
@@ -101,14 +95,14 @@ fn permute(out: &mut [u8], brick: &[u8], side: [u32; 3], width: u32, plain: bool
     let n = bytes as usize;
     let room = out.len();
     if (brick.len() < n) | (room < n) {
-        return refuse(18);
+        return Err(Refusal::Room);
     }
     move_runs(&mut out[..n], brick, plain, n1, n0 * n1, n2 * item);
-    Done::Taken(bytes)
+    Ok(bytes)
 }
 
 // A version 1 brick to plain order.
-pub fn to_plain(out: &mut [u8], brick: &[u8], side: [u32; 3], width: u32) -> Done
+pub fn to_plain(out: &mut [u8], brick: &[u8], side: [u32; 3], width: u32) -> Result<u64, Refusal>
     ensures value { result ≡ permute_answer side width (length brick.now) (length out.old) }
     ensures out_after { out.new ≡ plain_buffer side width brick.now out.old }
 {
@@ -116,7 +110,7 @@ pub fn to_plain(out: &mut [u8], brick: &[u8], side: [u32; 3], width: u32) -> Don
 }
 
 // A brick in plain order to the version 1 order.
-pub fn to_subtiled(out: &mut [u8], brick: &[u8], side: [u32; 3], width: u32) -> Done
+pub fn to_subtiled(out: &mut [u8], brick: &[u8], side: [u32; 3], width: u32) -> Result<u64, Refusal>
     ensures value { result ≡ permute_answer side width (length brick.now) (length out.old) }
     ensures out_after { out.new ≡ subtiled_buffer side width brick.now out.old }
 {

@@ -22,7 +22,7 @@ last_cube f [] = f
 last_cube f (e ∷ es) = last_cube e.cube es
 
 abbrev pub taken : Done → Bool
-taken ((Ok u) n) = true
+taken (Ok n) = true
 taken (Err x) = false
 
 module _ (r : Record) where

@@ -1,3 +1,4 @@
+use native.Mathlib.Omega.{arith}
 use mathlib.Core.Path.{ap, ◌∙◌}
 use Prim.Native.Nat.{◌*◌}
 use Rattle.endian.specs.Loops.{cat}
@@ -17,5 +18,5 @@ loop-n-preserved c =
     (λ n. scaled_of c.args.half c.args.min c.args.max (le c.args.width c.args.bytes.now (n * c.args.width)))
     _
     c.loop-n.invariant
-    c.loop-n-test.true
+    (omega (arith, c.loop-n.invariant.size, c.loop-n-test.true))
     (c.scaled.ensures ∙ ap (scaled_of c.args.half c.args.min c.args.max) c.item.ensures.0)

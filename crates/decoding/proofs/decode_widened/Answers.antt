@@ -1,3 +1,4 @@
+use native.Mathlib.Omega.{arith}
 use mathlib.Core.Path.{ap, ◌∙◌}
 use Prim.Native.Nat.{◌*◌}
 use Rattle.endian.specs.Loops.{cat}
@@ -17,5 +18,5 @@ loop-n-preserved c =
     (λ n. widened_of (le c.args.width c.args.bytes.now (n * c.args.width)))
     _
     c.loop-n.invariant
-    c.loop-n-test.true
+    (omega (arith, c.loop-n.invariant.size, c.loop-n-test.true))
     (c.widen_bits.ensures ∙ ap (widened_of) c.item.ensures.0)

@@ -9,6 +9,3 @@ use Rattle.decoding.proofs.decode_widened.Given as goal
 
 abbrev pub invariant-loop-n : goal.invariant-loop-n
 invariant-loop-n l = Filled l.initial.out (cat l.n (λ k. widened_of (le l.width l.bytes (k * l.width)) ∷ [])) l.out l.n
-
-abbrev pub decreases-loop-n : goal.decreases-loop-n
-decreases-loop-n l = length l.initial.out - l.n

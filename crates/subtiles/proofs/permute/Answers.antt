@@ -10,7 +10,7 @@ use Rattle.subtiles.proofs.permute.Goals as goal
 
 pub returns-then-breaks_20 : goal.returns-then-breaks_20
 returns-then-breaks_20 c =
-    let p = answered _ _ _ _ _ _ (answer_20 _ _ _ _ (sym c.breaks_20.ensures ∙ c.if-breaks_20.true)) c.refuse.ensures refl in
+    let p = answered _ _ _ _ _ _ (answer_20 _ _ _ _ (sym c.breaks_20.ensures ∙ c.if-breaks_20.true)) refl refl in
     record { value = p.0; out_after = p.1 }
 
 pub brick_bytes-bytes-requires : goal.brick_bytes-bytes-requires
@@ -18,7 +18,7 @@ brick_bytes-bytes-requires c = let s = sides c.args.side c.args.width (sym c.bre
 
 pub returns-then-brick-n : goal.returns-then-brick-n
 returns-then-brick-n c =
-    let p = answered _ _ _ _ _ _ (answer_18 _ _ _ _ c.brick_bytes-bytes.ensures.0 (sym c.breaks_20.ensures ∙ c.if-breaks_20.false) c.if-brick-n.true) c.refuse-then-brick-n.ensures refl in
+    let p = answered _ _ _ _ _ _ (answer_18 _ _ _ _ c.brick_bytes-bytes.ensures.0 (sym c.breaks_20.ensures ∙ c.if-breaks_20.false) c.if-brick-n.true) refl refl in
     record { value = p.0; out_after = p.1 }
 
 pub move_runs-requires : goal.move_runs-requires
