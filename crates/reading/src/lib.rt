@@ -18,7 +18,7 @@ ghost use Rattle.reading.specs.Items.{items_of, RawBox};
 
 use cube::{MissingBrick, Region};
 use endian::copy;
-use record::{Done, Record, Verdict};
+use record::{Record, Refusal};
 use regions::raw_verdict;
 use runs::{Lattice, at_once, index, item_on, kind_on, lattice_of, left};
 use table::Kind;
@@ -339,13 +339,10 @@ fn read_region(out: &mut [u8], file: &[u8], r: Record, g: Region) -> usize
 }
 
 // Reads a region of samples as bytes. A refused call changes nothing.
-pub fn read_raw(out: &mut [u8], file: &[u8], r: Record, g: Region) -> Done
+pub fn read_raw(out: &mut [u8], file: &[u8], r: Record, g: Region) -> Result<u64, Refusal>
     ensures answer { result ≡ answer_of r file.now (raw_read g out.old) }
     ensures buffer { raw out.new ∷ [] ≡ buffers_after r file.now (raw_read g out.old) }
 {
-    let verdict = raw_verdict(file, r, g, out.len());
-    match verdict {
-        Verdict::Refused(x) => Done::Refused(x),
-        Verdict::Taken => Done::Taken(read_region(out, file, r, g) as u64),
-    }
+    raw_verdict(file, r, g, out.len())?;
+    Ok(read_region(out, file, r, g) as u64)
 }

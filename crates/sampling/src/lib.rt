@@ -18,7 +18,7 @@ use cube::{MissingBrick, Region};
 use decoding::{decode, decode_one, fill_floats};
 use endian::copy;
 use floats::widened;
-use record::{Done, Record, Verdict};
+use record::{Record, Refusal};
 use regions::float_verdict;
 use runs::{Lattice, at_once, item_on, kind_on, lattice_of, left};
 use table::Kind;
@@ -358,13 +358,10 @@ fn read_taken(out: &mut [f64], file: &[u8], r: Record, g: Region) -> u64
 }
 
 // A region's samples by the float rules, vertical fastest and inline slowest, into the front of out. It answers how many.
-pub fn read_float(out: &mut [f64], file: &[u8], r: Record, g: Region) -> Done
+pub fn read_float(out: &mut [f64], file: &[u8], r: Record, g: Region) -> Result<u64, Refusal>
     ensures answer { result ≡ answer_of r file.now (float_read g out.old) }
     ensures buffer { floats out.new ∷ [] ≡ buffers_after r file.now (float_read g out.old) }
 {
-    let verdict = float_verdict(file, r, g, out.len());
-    match verdict {
-        Verdict::Taken => Done::Taken(read_taken(out, file, r, g)),
-        Verdict::Refused(x) => Done::Refused(x),
-    }
+    float_verdict(file, r, g, out.len())?;
+    Ok(read_taken(out, file, r, g))
 }

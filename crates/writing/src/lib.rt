@@ -15,7 +15,7 @@ ghost use Rattle.writing.specs.Writes.{run_to, plane_to, Writable};
 
 use cube::Region;
 use endian::copy;
-use record::{Done, Record, Verdict};
+use record::{Record, Refusal};
 use regions::write_verdict;
 use runs::{Lattice, index, item_on, kind_on, lattice_of, span};
 use table::Kind;
@@ -143,13 +143,10 @@ fn write_region(file: &mut [u8], input: &[u8], r: Record, g: Region) -> usize
 }
 
 // Writes a region of samples from lent bytes. A refused call changes nothing.
-pub fn write(file: &mut [u8], input: &[u8], r: Record, g: Region) -> Done
+pub fn write(file: &mut [u8], input: &[u8], r: Record, g: Region) -> Result<u64, Refusal>
     ensures answer { result ≡ answer_of r file.old (Call.write g input.now) }
     ensures cube { file.new ≡ cube_after r file.old (Call.write g input.now) }
 {
-    let verdict = write_verdict(file, r, g, input.len());
-    match verdict {
-        Verdict::Refused(x) => Done::Refused(x),
-        Verdict::Taken => Done::Taken(write_region(file, input, r, g) as u64),
-    }
+    write_verdict(file, r, g, input.len())?;
+    Ok(write_region(file, input, r, g) as u64)
 }
