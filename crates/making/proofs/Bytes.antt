@@ -3,11 +3,12 @@ use mathlib.Core.List.{List, [], ◌∷◌, ◌++◌, append_assoc}
 use mathlib.Core.Logic.{⊎_elim}
 use mathlib.Core.Path.{◌≡◌, refl, sym, ap, ◌∙◌}
 use Prim.Native.Nat.{ℕ, zero, suc, ◌+◌, ◌-◌, ◌*◌, ◌/◌, ◌%◌, ◌^◌, ◌≤◌, ◌<◌}
-use native.Mathlib.Nat.{zero-add, suc-add, pow-suc, pow-succ', one-le-pow, eq-or-lt_of_le, mod-lt, div-one, div-div-eq-div-mul}
+use native.Mathlib.Nat.{pow-suc, one-le-pow, eq-or-lt_of_le, mod-lt, div-one, div-div-eq-div-mul}
 use native.Mathlib.Omega.{arith}
 use lib.Arith.{mod-mul, digits_mod, digits_div}
 use lib.ListN.{length, get_or, take, drop, length-replicate, replicate-append-replicate, get_or-append}
 use lib.Seq.{take_at, drop_at}
+use Rattle.std.specs.Int.{w32, w64, byte_at, bytes_low_first, to_le_bytes}
 use Rattle.endian.specs.Loops.{cat}
 use Rattle.endian.specs.Bytes.{Bytes, le, lows}
 use Rattle.endian.proofs.Bytes.{le_same, le_cons, le-lows}
@@ -15,11 +16,21 @@ use Rattle.endian.proofs.Cats.{length-cat}
 use Rattle.endian.proofs.Puts.{length-lows}
 use Rattle.making.specs.Making.{zero_bytes}
 
--- the bytes of a number in two parts
-lows-add : (j k v : ℕ) → lows (j + k) v ≡ lows j v ++ lows k (v / 256 ^ j)
+-- std's words for the bytes of a number, in the words of the format
+byte_low : (i v : ℕ) → byte_at i v ≡ v / 256 ^ i % 256
+byte_low zero v = ap (λ (n : ℕ). n % 256) (sym (div-one v))
+byte_low (suc i) v = refl
+
+low_first : (i k v : ℕ) → bytes_low_first i k v ≡ lows k (v / 256 ^ i)
 unfolding lows
-lows-add zero k v = rw (zero-add k, div-one v)
-lows-add (suc j) k v = rw (suc-add j k, lows-add j k (v / 256), div-div-eq-div-mul v 256 (256 ^ j), pow-succ' 256 j)
+low_first i zero v = refl
+low_first i (suc k) v = rw (byte_low i v, low_first (suc i) k v, pow-suc 256 i, div-div-eq-div-mul v (256 ^ i) 256)
+
+pub lows_32 : (v : ℕ) {l : List ℕ} → l ≡ to_le_bytes w32 v → l ≡ lows 4 v
+lows_32 v e = e ∙ low_first 0 4 v ∙ ap (lows 4) (div-one v)
+
+pub lows_64 : (v : ℕ) {l : List ℕ} → l ≡ to_le_bytes w64 v → l ≡ lows 8 v
+lows_64 v e = e ∙ low_first 0 8 v ∙ ap (lows 8) (div-one v)
 
 -- they depend on the number's rest alone
 pub lows_mod : (j v : ℕ) → lows j (v % 256 ^ j) ≡ lows j v
@@ -30,10 +41,6 @@ lows_mod (suc j) v =
     let high : 0 < 256 ^ j = one-le-pow j 256 (omega arith) in
     let low : 0 < 256 = omega arith in
     rw (pow-suc 256 j, mod-mul v {c = 256} high low, digits_mod (v / 256 % 256 ^ j) r, digits_div (v / 256 % 256 ^ j) r, lows_mod j (v / 256))
-
--- a number of 64 bits is its lower half, then its upper half
-pub lows_halves : (n : ℕ) → lows 4 (n % 4294967296) ++ lows 4 (n / 4294967296) ≡ lows 8 n
-lows_halves n = ap (λ (l : List ℕ). l ++ lows 4 (n / 4294967296)) (lows_mod 4 n) ∙ sym (lows-add 4 4 n)
 
 -- a number past other bytes
 pub le-after : (k : ℕ) (xs ys : List ℕ) (a m : ℕ) → a ≡ length xs + m → le k (xs ++ ys) a ≡ le k ys m

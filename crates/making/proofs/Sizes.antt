@@ -1,8 +1,8 @@
 -- The numbers of a made cube, and their bounds. Assumes nothing.
 use mathlib.Core.Path.{◌≡◌, refl, ap, ◌∙◌}
-use Prim.Native.Nat.{ℕ, ◌+◌, ◌-◌, ◌*◌, ◌≤◌, ◌<◌, min}
+use Prim.Native.Nat.{ℕ, ◌+◌, ◌-◌, ◌*◌, ◌/◌, ◌%◌, ◌≤◌, ◌<◌, min}
 use native.Mathlib.Decide.{dec_le}
-use native.Mathlib.Nat.{mul-le-mul, div-mul-le_self, le_refl, le_trans}
+use native.Mathlib.Nat.{mul-le-mul, mul-le-mul_right, div-add-mod', div-mul-le_self, le_refl, le_trans}
 use native.Mathlib.Omega.{arith}
 use borrow.Author.Tests.{le-leb, lt-leb}
 use Rattle.floats.specs.Rules.{finite_bits}
@@ -80,6 +80,21 @@ pub record Multiple (h s q : ℕ) : Type 0 where
 pub multiple : (h s q : ℕ) → 0 < s → q ≡ ceil_div h s → Multiple h s q
 multiple h s q pos e = rw e (record { low = ceil_le⁻¹ h s (ceil_div h s) pos (le_refl (ceil_div h s)); high = omega (arith, div-mul-le_self (h + (s - 1)) s) })
 
+-- two multiples of s, neither below h, and one of them less than s above it
+multiple_le : (h s a b : ℕ) → h ≤ b * s → a * s < h + s → a ≤ b
+multiple_le h s a b low high = elim (dec_le a b) [ yes q ↦ q | no q ↦ absurd (go (omega arith)) ]
+  where
+    go : b + 1 ≤ a → ⊥
+    go q = omega (arith, mul-le-mul_right s q)
+
+-- std's multiple is that one
+pub next_multiple : (h s r : ℕ) → 0 < s → h ≤ r → r < h + s → r % s ≡ 0 → r ≡ ceil_div h s * s
+next_multiple h s r pos low high e =
+    let m = multiple h s _ pos refl in
+    let whole : r ≡ r / s * s = omega (arith, div-add-mod' r s) in
+    let q : r / s ≡ ceil_div h s = omega (arith, multiple_le h s (r / s) (ceil_div h s) m.low (omega arith), multiple_le h s (ceil_div h s) (r / s) (omega arith) m.high) in
+    whole ∙ ap (λ (n : ℕ). n * s) q
+
 pub all-bytes : (b s : ℕ) → b ≤ brick_limit → s ≤ bytes_room → b * s ≤ brick_limit * bytes_room
 all-bytes b s h g = mul-le-mul h g
 
@@ -116,7 +131,7 @@ module _ (d : Description) (t a b h s : ℕ) (n : Numbers d t a b h s) (fill : F
       let e : header_of d t + 0 ≡ header_of d t = omega arith in
       simp (f, n.alphas_are, n.bricks_are, n.header_is, e)
 
-  pub plan_stored : (q : ℕ) → q ≡ ceil_div h s → fill ≡ Stored → ◌≡◌ {A = Plan} (record { alphas = a; bricks = b; first = q * s; step = s; after = q * s - h + b * s; length = h + (q * s - h + b * s) }) (plan_of d t fill)
+  pub plan_stored : (q : ℕ) → q ≡ ceil_div h s * s → fill ≡ Stored → ◌≡◌ {A = Plan} (record { alphas = a; bricks = b; first = q; step = s; after = q - h + b * s; length = h + (q - h + b * s) }) (plan_of d t fill)
   unfolding plan_of made_length first_brick
   plan_stored q e f = simp (f, e, n.alphas_are, n.bricks_are, n.header_is, n.brick-is)
 

@@ -4,11 +4,15 @@ use Rattle.endian.specs.Loops.{cat}
 use Rattle.floats.specs.Rules.{signed_of}
 use Rattle.text.specs.Text.{bytes_of, digits, decimal, signed_decimal}
 use Rattle.record.specs.Types.{coding_of}
+use Rattle.std.specs.Prelude.{Result, Ok, Err}
+use Rattle.std.specs.Prelude.{Result, Ok, Err}
+use Rattle.std.specs.Prelude.{Result, Ok, Err}
 use Rattle.record.specs.declared.Coding.{Coding}
-use Rattle.record.specs.declared.Coding.TheVariants.{Scaled, Float32, NoType}
+use Rattle.record.specs.declared.Coding.TheVariants.{Scaled, Float32}
 use Rattle.record.specs.declared.Record.{Record}
 use Rattle.record.specs.declared.Refusal.{Refusal}
-use Rattle.record.specs.Answers.{Verdict}
+use Rattle.record.specs.Answers.{Verdict, number, entry}
+use Rattle.record.specs.declared.Refusal.TheVariants as refusal
 use Rattle.record.specs.Answers.{Taken}
 use Rattle.record.specs.Answers.{refused}
 use Rattle.table.specs.declared.Kind.{Kind}
@@ -39,7 +43,7 @@ three_line word ns = numbered word (get_or ns 0 0) ++ numbered space (get_or ns 
 
 -- `refused A B`: the number and the second number
 abbrev pub refused_line : Refusal → List ℕ
-refused_line x = numbered (bytes_of "refused ") x.number ++ number_line space x.entry
+refused_line x = numbered (bytes_of "refused ") (number x) ++ number_line space (entry x)
 
 -- the seven lines of a record
 unfoldable pub header_lines : Record → List ℕ
@@ -53,10 +57,10 @@ header_lines r =
     ++ number_line (bytes_of "header ") r.header
 
 -- a constant, from the unsigned number of its bytes: the signed storage value; for floats the 32 bits as an unsigned number
-abbrev pub constant_by : Coding → ℕ → List ℕ
-constant_by (Scaled w h) n = signed_decimal (signed_of h n)
-constant_by (Float32 w) n = decimal n
-constant_by (NoType x) n = decimal n
+abbrev pub constant_by : Result Coding Refusal → ℕ → List ℕ
+constant_by (Ok (Scaled w h)) n = signed_decimal (signed_of h n)
+constant_by (Ok (Float32 w)) n = decimal n
+constant_by (Err x) n = decimal n
 
 unfoldable pub constant_text : ℕ → ℕ → List ℕ
 constant_text datatype n = constant_by (coding_of datatype) n
@@ -101,6 +105,6 @@ float32_constant : entry_line 6 0 (Constant 1065353216) ≡ bytes_of "entry 0 co
 unfolding entry_line kind_text constant_text coding_of decimal digits
 float32_constant = refl
 
-refusal : refused_line (record { number = 12; entry = 2 }) ≡ bytes_of "refused 12 2\n"
+refusal_line : refused_line (refusal.Range 2) ≡ bytes_of "refused 12 2\n"
 unfolding decimal digits
-refusal = refl
+refusal_line = refl

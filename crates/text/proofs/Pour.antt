@@ -1,13 +1,15 @@
 -- Laws of text that is poured piece by piece: one pouring after the other is a pouring of both. Assumes nothing.
 use mathlib.Core.List.{List, [], ◌∷◌, ◌++◌}
 use mathlib.Core.Path.{◌≡◌, refl, ap, sym, ◌∙◌}
-use Prim.Native.Nat.{ℕ, zero, suc, ◌+◌, ◌≤◌, ◌<◌, min}
+use Prim.Native.Nat.{ℕ, zero, suc, ◌+◌, ◌-◌, ◌≤◌, ◌<◌, min}
 use native.Mathlib.Nat.{zero-add, suc-add}
-use native.Mathlib.Numerals.{add-one}
 use native.Mathlib.Omega.{arith}
-use lib.ListN.{length, take, get_or, set, length-append}
-use lib.Seq.{take-length, take-suc}
+use lib.ListN.{length, take, set, length-append}
+use lib.Seq.{take-length}
+use borrow.Rule.Slice.PartMut.{put_mid}
 use Rattle.text.specs.Text.{poured, after, Pours}
+use Rattle.text.specs.Writing.{Writes}
+use Rattle.text.specs.declared.Writer.{Writer}
 
 -- `poured`, byte by byte
 pour_past : (a : ℕ) (bs : List ℕ) → poured [] a bs ≡ []
@@ -73,21 +75,40 @@ poured-more (x ∷ out) (suc a) xs ys =
 pub after_more : (out : List ℕ) (a : ℕ) (xs ys : List ℕ) → after (poured out a xs) (after out a xs) ys ≡ after out a (xs ++ ys)
 after_more out a xs ys = omega (arith, poured-length out a xs, length-append xs ys)
 
--- before the first call
-pub poured-none : (d : List ℕ) (a : ℕ) {at : ℕ} → at ≡ min a (length d) → Pours d a [] d at
-poured-none d a e = record { bytes = sym (poured_nil d a); place = omega arith }
-
--- a further call: p is what all calls before it promise together, and e what it promises
-pub poured_step : {d : List ℕ} {a : ℕ} {acc out : List ℕ} {at : ℕ} {bs out' : List ℕ} {at' : ℕ} → Pours d a acc out at → Pours out at bs out' at' → Pours d a (acc ++ bs) out' at'
-poured_step {d} {a} {acc} {bs} p e = record {
-  bytes = e.bytes ∙ rw (p.bytes, p.place) (poured-more d a acc bs);
-  place = e.place ∙ rw (p.bytes, p.place) (after_more d a acc bs);
+-- a writer before its next call
+pub writes_none : (w : Writer) → Writes w [] w
+writes_none w = record {
+  same = refl;
+  pours = record { bytes = sym (poured_nil w.out.now w.at); place = omega (arith, w.inside) };
 }
 
--- one byte more of a text
-pub poured_byte : {d : List ℕ} {a : ℕ} {out : List ℕ} {at : ℕ} {out' : List ℕ} {at' : ℕ} (bs : List ℕ) (i : ℕ) → i < length bs → Pours d a (take i bs) out at → Pours out at (get_or bs i 0 ∷ []) out' at' → Pours d a (take (i + 1) bs) out' at'
-poured_byte bs i h p e = rw (add-one, take-suc bs i 0 h) (poured_step p e)
+-- a writer's calls, one after the other
+pub writes_step : {w v u : Writer} {xs ys : List ℕ} → Writes w xs v → Writes v ys u → Writes w (xs ++ ys) u
+writes_step {w} {v} {u} {xs} {ys} p q = record {
+  same = q.same ∙ p.same;
+  pours = record {
+    bytes = q.pours.bytes ∙ rw (p.pours.bytes, p.pours.place) (poured-more w.out.now w.at xs ys);
+    place = q.pours.place ∙ rw (p.pours.bytes, p.pours.place) (after_more w.out.now w.at xs ys);
+  };
+}
 
--- out is d with acc poured from place 0 on, and at is the place after it
-abbrev pub Poured : List ℕ → List ℕ → List ℕ → ℕ → Type 0
-Poured d acc out at = Pours d 0 acc out at
+-- the part of bs that fits, written in place
+poured_part : (out : List ℕ) (a : ℕ) (bs : List ℕ) (k : ℕ) → k ≡ min (length bs) (length out - a) → poured out a bs ≡ put_mid a k out (take k bs)
+poured_part [] zero bs k e =
+    let z : k ≡ 0 = omega arith in
+    rw (z, pour_past 0 bs)
+poured_part [] (suc a) bs k e =
+    let z : k ≡ 0 = omega arith in
+    rw (z, pour_past (suc a) bs)
+poured_part (x ∷ out) zero [] k e =
+    let z : k ≡ 0 = omega arith in
+    rw (z, pour_none x out)
+poured_part (x ∷ out) zero (b ∷ bs) zero e = absurd (omega arith)
+poured_part (x ∷ out) zero (b ∷ bs) (suc k) e =
+    pour_byte x out b bs ∙ ap (λ (l : List ℕ). b ∷ l) (poured_part out zero bs k (omega arith))
+poured_part (x ∷ out) (suc a) bs k e =
+    pour_on x out a bs ∙ ap (λ (l : List ℕ). x ∷ l) (poured_part out a bs k (omega arith))
+
+pub pours_part : {out : List ℕ} {a e : ℕ} (bs : List ℕ) {part : List ℕ} → e ≡ a + min (length bs) (length out - a) → a ≤ length out
+    → part ≡ take (e - a) bs → Pours out a bs (put_mid a (e - a) out part) e
+pours_part {out} {a} {e} bs q h r = record { bytes = rw r (sym (poured_part out a bs (e - a) (omega arith))); place = omega arith }

@@ -1,71 +1,99 @@
-// Text and decimal numbers, poured into a slice that the caller lends.
-//
-// Each function writes its bytes from the place `at` on, leaves out what does not fit, and answers
-// the place after them. So a caller hands each answer to the next call, and looks at the end once.
+// Bytes, text and decimal numbers, written into a slice that the caller lends.
 #![tactic(auto)]
 
-ghost use Rattle.std.specs.Prelude.{◌≡◌, ◌∷◌, [], min};
+ghost use Rattle.std.specs.Prelude.{◌≡◌, ◌∷◌, [], ◌+◌, ◌-◌, ◌≤◌, min, length, replicate};
 ghost use Rattle.floats.specs.Rules.{signed_of};
-ghost use Rattle.text.specs.Text.{Pours, decimal, signed_decimal};
+ghost use Rattle.text.specs.Text.{decimal, signed_decimal};
 
-// One byte.
-pub fn push(out: &mut [u8], at: usize, byte: u8) -> usize
-    ensures { Pours out.old at (byte ∷ []) out.new result }
-{
-    if at < out.len() {
-        out[at] = byte;
-        at + 1
-    } else {
-        out.len()
-    }
+// Where bytes go: a lent slice, and the place after what is written. Each call goes on where the one before it ended, and leaves
+// out what does not fit, so whoever makes a writer looks at its place once, at the end.
+#[derive(Drop)]
+pub struct Writer<'a> {
+    out: &'a mut [u8],
+    at: usize,
+    ghost inside: { at ≤ length out.now },
 }
 
-// The place `at`, or the end of a slice of `len` bytes where `at` is past it.
-fn within(at: usize, len: usize) -> usize
-    ensures { result ≡ min at len }
-{
-    if at < len { at } else { len }
-}
+impl<'a> Writer<'a> {
+    ghost use Rattle.text.specs.Writing.{Writes};
 
-// A text, or any bytes.
-pub fn push_bytes(out: &mut [u8], at: usize, bytes: &[u8]) -> usize
-    ensures { Pours out.old at bytes.now out.new result }
-{
-    let mut place = within(at, out.len());
-    let mut i = 0;
-    while i < bytes.len() {
-        place = push(out, place, bytes[i]);
-        i += 1;
+    // A writer that begins where the slice does.
+    pub fn new(out: &'a mut [u8]) -> Writer<'a>
+        ensures same { result.out.ghost_name ≡ out.entry.ghost_name }
+        ensures bytes { result.out.now ≡ out.old }
+        ensures place { result.at ≡ 0 }
+    {
+        Writer { out, at: 0 }
     }
-    place
-}
 
-// A number in decimal: the digits before the last, and the last.
-pub fn push_decimal(out: &mut [u8], at: usize, n: u64) -> usize
-    ensures { Pours out.old at (decimal n) out.new result }
-{
-    let last = b'0' + (n % 10) as u8;
-    if n < 10 {
-        push(out, at, last)
-    } else {
-        let next = push_decimal(out, at, n / 10);
-        push(out, next, last)
+    // How many bytes are written.
+    pub fn place(&self) -> usize
+        ensures { result ≡ self.now.at }
+    {
+        self.at
     }
-}
 
-// The signed number of an integer type in decimal, as an item's bytes have it: n is their unsigned number, and half is 128 for one
-// byte. Of n below twice half, those from half on are below zero.
-pub fn push_signed(out: &mut [u8], at: usize, n: u32, half: u32) -> usize
-    ensures { Pours out.old at (signed_decimal (signed_of half n)) out.new result }
-{
-    let whole = 2 * half as u64;
-    let bits = n as u64;
-    if n < half {
-        return push_decimal(out, at, bits);
+    // One byte.
+    pub fn push(&mut self, byte: u8)
+        ensures { Writes self.old (byte ∷ []) self.new }
+    {
+        if self.at < self.out.len() {
+            self.out[self.at] = byte;
+            self.at += 1;
+        }
     }
-    if whole <= bits {
-        return push_decimal(out, at, bits - whole);
+
+    // The place after n bytes more.
+    fn place_after(&self, n: usize) -> usize
+        ensures { result ≡ self.now.at + min n (length self.now.out.now - self.now.at) }
+    {
+        self.at + n.min(self.out.len() - self.at)
     }
-    let next = push(out, at, b'-');
-    push_decimal(out, next, whole - bits)
+
+    // A text, or any bytes.
+    pub fn push_bytes(&mut self, bytes: &[u8])
+        ensures { Writes self.old bytes.now self.new }
+    {
+        let end = self.place_after(bytes.len());
+        let fitting = &bytes[..end - self.at];
+        self.out[self.at..end].copy_from_slice(fitting);
+        self.at = end;
+    }
+
+    // The same byte n times.
+    pub fn push_repeated(&mut self, byte: u8, n: usize)
+        ensures { Writes self.old (replicate n byte) self.new }
+    {
+        let end = self.place_after(n);
+        self.out[self.at..end].fill(byte);
+        self.at = end;
+    }
+
+    // A number in decimal: the digits before the last, and the last.
+    pub fn push_decimal(&mut self, n: u64)
+        ensures { Writes self.old (decimal n) self.new }
+    {
+        let last = b'0' + (n % 10) as u8;
+        if n >= 10 {
+            self.push_decimal(n / 10);
+        }
+        self.push(last);
+    }
+
+    // The signed number of an integer type in decimal, as an item's bytes have it: n is their unsigned number, and half is 128 for
+    // one byte. Of n below twice half, those from half on are below zero.
+    pub fn push_signed(&mut self, n: u32, half: u32)
+        ensures { Writes self.old (signed_decimal (signed_of half n)) self.new }
+    {
+        let whole = 2 * half as u64;
+        let bits = n as u64;
+        if n < half {
+            self.push_decimal(bits);
+        } else if bits < whole {
+            self.push(b'-');
+            self.push_decimal(whole - bits);
+        } else {
+            self.push_decimal(bits - whole);
+        }
+    }
 }

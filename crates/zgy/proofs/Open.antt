@@ -9,7 +9,8 @@ use native.Mathlib.Omega.{arith}
 use lib.Dec.{leb, ltb}
 use lib.ListN.{length}
 use Rattle.endian.specs.Loops.{first}
-use Rattle.record.specs.Answers.{number_of, refused, refused_at}
+use Rattle.record.specs.Answers.{number_of, refused, number}
+use Rattle.record.specs.declared.Refusal.{Refusal}
 use Rattle.record.specs.Record.{record_of}
 use Rattle.record.specs.declared.Record.{Record}
 use Rattle.record.specs.Answers.{Verdict}

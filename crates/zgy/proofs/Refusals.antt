@@ -4,14 +4,15 @@ use mathlib.Core.List.{List, [], ◌∷◌}
 use mathlib.Core.Path.{◌≡◌, refl, sym, ap, ◌∙◌}
 use Prim.Native.Nat.{ℕ}
 use native.Mathlib.Omega.{arith}
+use lib.Ieee.{Float}
 use lib.Dec.{eqb, leb, ltb}
 use lib.ListN.{length}
 use Rattle.endian.specs.Loops.{first}
 use Rattle.floats.specs.Position.{position_of}
 use Rattle.geometry.specs.Limits.{text_start}
-use Rattle.record.specs.Types.{coding_of, other_type, type_verdict}
-use Rattle.record.specs.declared.Coding.TheVariants.{Scaled, Float32, NoType}
-use Rattle.record.specs.Answers.{refused, refused_at, and_then, unless_found, verdict_of, answered}
+use Rattle.record.specs.Types.{coding_of, type_verdict}
+use Rattle.record.specs.declared.Coding.TheVariants.{Scaled, Float32}
+use Rattle.record.specs.Answers.{number, entry, and_then, unless_found, verdict_of, answered}
 use Rattle.record.specs.Header.{version_of, description_of, text_length_of, text_of}
 use Rattle.record.specs.Record.{size_of, bricks_of, brick_bytes_of, header_of}
 use Rattle.record.specs.declared.Description.{Description}
@@ -32,16 +33,13 @@ use Rattle.cube.specs.Places.{item_bytes, kind_in}
 use Rattle.cube.specs.Regions.{touches, not_stored, in_extent, region_verdict, raw_verdict, float_verdict, write_verdict}
 use Rattle.cube.specs.Calls.{Call, raw_read, float_read, write, lent, verdict_on, moves, answer_of}
 use Rattle.cube.proofs.Calls.{refused-cube, refused-buffers}
-use Rattle.bricks.specs.Bricks.{found_of, found_verdict, kind_verdict, kind_answer, fill_of, filled_with, room_verdict, value_verdict, filler_verdict, shown_verdict, view_verdict}
-use Rattle.bricks.specs.declared.Brick.{Brick}
-use Rattle.positions.specs.Positions.{orig_in, inc_in, located_verdict, refused_by, position_answer}
-use Rattle.positions.specs.declared.Located.{Located}
+use Rattle.bricks.specs.Bricks.{brick_of, kind_verdict, kind_answer, fill_of, filled_with, room_verdict, value_verdict, filler_verdict, shown_verdict, view_verdict}
+use Rattle.positions.specs.Positions.{orig_in, inc_in, position_answer}
 use Rattle.strings.specs.Strings.{strings_verdict}
 use Rattle.strings.proofs.Parts.{turn_verdict_lem}
 use Rattle.making.specs.Making.{made_length, made_file, make_verdict, make_answer, buffer_if, make_buffer}
 use Rattle.making.specs.declared.Fill.{Fill}
 use Rattle.subtiles.specs.Subtiles.{breaks20}
-use Rattle.subtiles.specs.Answers as Answers
 use Rattle.subtiles.specs.Answers.{bytes_in, breaks18, permute_answer, buffer_after}
 use Rattle.zgy.specs.Ledger.{Event, CallOn}
 use Rattle.zgy.specs.Refusals.{one_of, may_be, numbers_of, RefusedByNumber, RefusedLeaves, EveryCallRefusesByNumber}
@@ -58,14 +56,14 @@ by_then : (ks : List ℕ) (v later : Verdict) → may_be ks v ≡ true → may_b
 by_then ks (Ok u) later e l = l
 by_then ks (Err x) later e l = e
 
-by-found : (ks : List ℕ) (n : ℕ) (p : ℕ → Bool) (m : ℕ) (later : Verdict) → ((e : ℕ) → may_be ks (refused_at n e) ≡ true) → may_be ks later ≡ true
-    → may_be ks (unless_found n (first p m) m later) ≡ true
-by-found ks n p m later e l = by_check ks (ltb (first p m) m) (refused_at n (first p m)) later (e (first p m)) l
+by-found : (ks : List ℕ) (check : ℕ → Refusal) (p : ℕ → Bool) (m : ℕ) (later : Verdict) → ((e : ℕ) → may_be ks (refused (check e)) ≡ true) → may_be ks later ≡ true
+    → may_be ks (unless_found check (first p m) m later) ≡ true
+by-found ks check p m later e l = by_check ks (ltb (first p m) m) (refused (check (first p m))) later (e (first p m)) l
 
 -- a refusal that the call may give, and a taken call
-may : (ks : List ℕ) (n e : ℕ) → one_of n ks && (one_of n (12 ∷ 13 ∷ 19 ∷ []) || eqb e 0) ≡ true → may_be ks (refused_at n e) ≡ true
+may : (ks : List ℕ) (x : Refusal) → one_of (number x) ks && (one_of (number x) (12 ∷ 13 ∷ 19 ∷ []) || eqb (entry x) 0) ≡ true → may_be ks (refused x) ≡ true
 unfolding may_be
-may ks n e q = q
+may ks x q = q
 
 may_take : (ks : List ℕ) → may_be ks Taken ≡ true
 unfolding may_be
@@ -77,23 +75,29 @@ unfolding described coding_of
 by_description ks d t a b c e g h =
     by_check ks (breaks4 d) _ _ a (by_then ks (verdict5 d) _ (typed (eqb d.datatype 0) (eqb d.datatype 2) (eqb d.datatype 6)) (by_check ks (breaks6 d) _ _ c (by_check ks (breaks7 d) _ _ e (by_check ks (breaks8 d) _ _ g (by_check ks (breaks9 t) _ _ h (may_take ks))))))
   where
-    typed : (x y z : Bool) → may_be ks (type_verdict (cond x (Scaled 1 128) (cond y (Scaled 2 32768) (cond z (Float32 4) (NoType other_type))))) ≡ true
+    typed : (x y z : Bool) → may_be ks (type_verdict (cond x (Ok (Scaled 1 128)) (cond y (Ok (Scaled 2 32768)) (cond z (Ok (Float32 4)) (Err refusal.Datatype))))) ≡ true
     typed true y z = may_take ks
     typed false true z = may_take ks
     typed false false true = may_take ks
     typed false false false = b
 
-opening : (f : List ℕ) → may_be (1 ∷ 2 ∷ 3 ∷ 4 ∷ 5 ∷ 6 ∷ 7 ∷ 8 ∷ 9 ∷ 10 ∷ 11 ∷ 12 ∷ 13 ∷ []) (opened_of f).verdict ≡ true
+-- an answer's verdict is the one that made it
+verdict_done : {A : Type 0} (v : Verdict) (x : A) → verdict_of (answered v x) ≡ v
+verdict_done (Ok u) x = refl
+verdict_done (Err y) x = refl
+
+opening : (f : List ℕ) → may_be (1 ∷ 2 ∷ 3 ∷ 4 ∷ 5 ∷ 6 ∷ 7 ∷ 8 ∷ 9 ∷ 10 ∷ 11 ∷ 12 ∷ 13 ∷ []) (verdict_of (opened_of f)) ≡ true
 unfolding opened_of open_verdict header_verdict body_verdict length_verdict text_verdict entries_verdict range_verdict overlap_verdict
 opening f =
-    by_then ks (header_verdict f) (body_verdict r f)
-    (by_check ks (ltb (length f) text_start) _ _ (may ks 1 0 refl) (by_check ks (breaks2 f) _ _ (may ks 2 0 refl) (by_check ks (breaks3 (version_of f)) _ _ (may ks 3 0 refl)
-    (by_description ks (description_of f) (text_length_of f) (may ks 4 0 refl) (may ks 5 0 refl) (may ks 6 0 refl) (may ks 7 0 refl) (may ks 8 0 refl) (may ks 9 0 refl)))))
-    (by_then ks (length_verdict r f) (and_then (text_verdict r f) (entries_verdict r f)) (by_check ks (ltb (length f) (header_of r.description r.text)) (refused refusal.Headers) Taken (may ks 10 0 refl) (may_take ks))
-    (by_then ks (text_verdict r f) (entries_verdict r f) (by_check ks (breaks11 (text_of f r.text)) (refused refusal.Text) Taken (may ks 11 0 refl) (may_take ks))
+    rw (verdict_done (open_verdict f) r)
+    (by_then ks (header_verdict f) (body_verdict r f)
+    (by_check ks (ltb (length f) text_start) _ _ (may ks refusal.Short refl) (by_check ks (breaks2 f) _ _ (may ks refusal.Magic refl) (by_check ks (breaks3 (version_of f)) _ _ (may ks refusal.Version refl)
+    (by_description ks (description_of f) (text_length_of f) (may ks refusal.Side refl) (may ks refusal.Datatype refl) (may ks refusal.Size refl) (may ks refusal.Floats refl) (may ks refusal.Bricks refl) (may ks refusal.TextLength refl)))))
+    (by_then ks (length_verdict r f) (and_then (text_verdict r f) (entries_verdict r f)) (by_check ks (ltb (length f) (header_of r.description r.text)) (refused refusal.Headers) Taken (may ks refusal.Headers refl) (may_take ks))
+    (by_then ks (text_verdict r f) (entries_verdict r f) (by_check ks (breaks11 (text_of f r.text)) (refused refusal.Text) Taken (may ks refusal.Text refl) (may_take ks))
     (by_then ks (range_verdict r f) (overlap_verdict r f)
-    (by-found ks 12 (breaks12 r f) (bricks_of r.description) Taken (λ e. may ks 12 e refl) (may_take ks))
-    (by-found ks 13 (breaks13 r f) (bricks_of r.description) Taken (λ e. may ks 13 e refl) (may_take ks)))))
+    (by-found ks refusal.Range (breaks12 r f) (bricks_of r.description) Taken (λ e. may ks (refusal.Range e) refl) (may_take ks))
+    (by-found ks refusal.Overlap (breaks13 r f) (bricks_of r.description) Taken (λ e. may ks (refusal.Overlap e) refl) (may_take ks))))))
   where
     ks : List ℕ
     ks = 1 ∷ 2 ∷ 3 ∷ 4 ∷ 5 ∷ 6 ∷ 7 ∷ 8 ∷ 9 ∷ 10 ∷ 11 ∷ 12 ∷ 13 ∷ []
@@ -106,25 +110,16 @@ region : (ks : List ℕ) (r : Record) (f : List ℕ) (g : Region) (room need : �
     → may_be ks later ≡ true → may_be ks (region_verdict r f g room need later) ≡ true
 unfolding region_verdict
 region ks r f g room need later a b c d e l =
-    by_check ks (breaks14_with r (length f)) _ _ a (by_check ks (leb r.levels g.level) _ _ b (by_check ks (not (in_extent r g)) _ _ c (by_check ks (ltb room need) _ _ d (by-found ks 12 (λ e. touches r g e && breaks12 r f e) (bricks_of r.description) later e l))))
-
--- an answer's verdict is the one that made it
-verdict_done : (v : Verdict) (n : ℕ) → verdict_of (answered v n) ≡ v
-verdict_done (Ok u) n = refl
-verdict_done (Err x) n = refl
-
-verdict_found : (v : Verdict) (b : Brick) → found_verdict (found_of v b) ≡ v
-verdict_found (Ok u) b = refl
-verdict_found (Err x) b = refl
+    by_check ks (breaks14_with r (length f)) _ _ a (by_check ks (leb r.levels g.level) _ _ b (by_check ks (not (in_extent r g)) _ _ c (by_check ks (ltb room need) _ _ d (by-found ks refusal.Range (λ e. touches r g e && breaks12 r f e) (bricks_of r.description) later e l))))
 
 region-verdict : (r : Record) (f : List ℕ) (c : Call) → may_be (numbers_of c) (verdict_on r f c) ≡ true
 unfolding raw_verdict float_verdict write_verdict
 region-verdict r f (raw_read g b) = let ks : List ℕ = 14 ∷ 15 ∷ 16 ∷ 18 ∷ 12 ∷ [] in
-    region ks r f g _ _ Taken (may ks 14 0 refl) (may ks 15 0 refl) (may ks 16 0 refl) (may ks 18 0 refl) (λ e. may ks 12 e refl) (may_take ks)
+    region ks r f g _ _ Taken (may ks refusal.Record refl) (may ks refusal.Level refl) (may ks refusal.Index refl) (may ks refusal.Room refl) (λ e. may ks (refusal.Range e) refl) (may_take ks)
 region-verdict r f (float_read g b) = let ks : List ℕ = 14 ∷ 15 ∷ 16 ∷ 18 ∷ 12 ∷ [] in
-    region ks r f g _ _ Taken (may ks 14 0 refl) (may ks 15 0 refl) (may ks 16 0 refl) (may ks 18 0 refl) (λ e. may ks 12 e refl) (may_take ks)
+    region ks r f g _ _ Taken (may ks refusal.Record refl) (may ks refusal.Level refl) (may ks refusal.Index refl) (may ks refusal.Room refl) (λ e. may ks (refusal.Range e) refl) (may_take ks)
 region-verdict r f (write g d) = let ks : List ℕ = 14 ∷ 15 ∷ 16 ∷ 18 ∷ 12 ∷ 19 ∷ [] in
-    region ks r f g _ _ _ (may ks 14 0 refl) (may ks 15 0 refl) (may ks 16 0 refl) (may ks 18 0 refl) (λ e. may ks 12 e refl) (by-found ks 19 (λ e. touches r g e && not_stored r f e) (bricks_of r.description) Taken (λ e. may ks 19 e refl) (may_take ks))
+    region ks r f g _ _ _ (may ks refusal.Record refl) (may ks refusal.Level refl) (may ks refusal.Index refl) (may ks refusal.Room refl) (λ e. may ks (refusal.Range e) refl) (by-found ks refusal.NotStored (λ e. touches r g e && not_stored r f e) (bricks_of r.description) Taken (λ e. may ks (refusal.NotStored e) refl) (may_take ks))
 
 kind : (ks : List ℕ) (r : Record) (f : List ℕ) (e : ℕ) → may_be ks (refused refusal.Record) ≡ true → may_be ks (refused refusal.Index) ≡ true → may_be ks (refused (refusal.Range e)) ≡ true → may_be ks (kind_verdict r f e) ≡ true
 unfolding kind_verdict
@@ -137,52 +132,52 @@ filler : (r : Record) (k : Kind) (l : List ℕ) → may_be (14 ∷ 16 ∷ 12 ∷
 unfolding filler_verdict room_verdict value_verdict view
 filler r k l =
     by_then view (room_verdict r l) (value_verdict r k l)
-    (by_check view (ltb (length l) (brick_bytes_of r.description)) (refused refusal.Room) Taken (may view 18 0 refl) (may_take view))
-    (by_check view (not (filled_with (fill_of r k) l (item_bytes r) (brick_bytes_of r.description))) (refused refusal.Filler) Taken (may view 17 0 refl) (may_take view))
+    (by_check view (ltb (length l) (brick_bytes_of r.description)) (refused refusal.Room) Taken (may view refusal.Room refl) (may_take view))
+    (by_check view (not (filled_with (fill_of r k) l (item_bytes r) (brick_bytes_of r.description))) (refused refusal.Filler) Taken (may view refusal.Filler refl) (may_take view))
 
 shown : (r : Record) (k : Kind) (l : List ℕ) → may_be (14 ∷ 16 ∷ 12 ∷ 18 ∷ 17 ∷ []) (shown_verdict r k l) ≡ true
 shown r Missing l = filler r Missing l
 shown r (Constant v) l = filler r (Constant v) l
 shown r (Stored o) l = may_take (14 ∷ 16 ∷ 12 ∷ 18 ∷ 17 ∷ [])
 
-placing : (r : Record) (k i : ℕ) → may_be (14 ∷ 16 ∷ []) (located_verdict (position_answer r k i)) ≡ true
+placing : (r : Record) (k i : ℕ) → may_be (14 ∷ 16 ∷ []) (verdict_of (position_answer r k i)) ≡ true
 unfolding position_answer
 placing r k i = go (breaks14 r) (leb 3 k || leb (size_of r.description k) i)
   where
-    go : (a b : Bool) → may_be (14 ∷ 16 ∷ []) (located_verdict (cond a (refused_by 14)
-        (cond b (refused_by 16) (Located.At (position_of (orig_in r k) (inc_in r k) i))))) ≡ true
-    go true b = may (14 ∷ 16 ∷ []) 14 0 refl
-    go false true = may (14 ∷ 16 ∷ []) 16 0 refl
+    go : (a b : Bool) → may_be (14 ∷ 16 ∷ []) (verdict_of {A = Float} (cond a (Err refusal.Record)
+        (cond b (Err refusal.Index) (Ok (position_of (orig_in r k) (inc_in r k) i))))) ≡ true
+    go true b = may (14 ∷ 16 ∷ []) refusal.Record refl
+    go false true = may (14 ∷ 16 ∷ []) refusal.Index refl
     go false false = may_take (14 ∷ 16 ∷ [])
 
 walking : (r : Record) (f : List ℕ) → may_be (14 ∷ 11 ∷ []) (strings_verdict r f) ≡ true
 unfolding strings_verdict
 walking r f = let ks : List ℕ = 14 ∷ 11 ∷ [] in
-    by_check ks (breaks14_with r (length f)) _ _ (may ks 14 0 refl) (by_check ks (breaks11 (text_of f r.text)) _ _ (may ks 11 0 refl) (may_take ks))
+    by_check ks (breaks14_with r (length f)) _ _ (may ks refusal.Record refl) (by_check ks (breaks11 (text_of f r.text)) _ _ (may ks refusal.Text refl) (may_take ks))
 
 making : (d : Description) (text : List ℕ) (fill : Fill) (n : ℕ) → may_be (4 ∷ 5 ∷ 6 ∷ 7 ∷ 8 ∷ 9 ∷ 11 ∷ 18 ∷ []) (make_verdict d text fill n) ≡ true
 unfolding make_verdict
 making d text fill n =
     let ks : List ℕ = 4 ∷ 5 ∷ 6 ∷ 7 ∷ 8 ∷ 9 ∷ 11 ∷ 18 ∷ [] in
     by_then ks (described d (length text)) (cond (breaks11 text) (refused refusal.Text) (cond (ltb n (made_length d (length text) fill)) (refused refusal.Room) Taken))
-    (by_description ks d (length text) (may ks 4 0 refl) (may ks 5 0 refl) (may ks 6 0 refl) (may ks 7 0 refl) (may ks 8 0 refl) (may ks 9 0 refl))
-    (by_check ks (breaks11 text) _ _ (may ks 11 0 refl) (by_check ks (ltb n (made_length d (length text) fill)) _ _ (may ks 18 0 refl) (may_take ks)))
+    (by_description ks d (length text) (may ks refusal.Side refl) (may ks refusal.Datatype refl) (may ks refusal.Size refl) (may ks refusal.Floats refl) (may ks refusal.Bricks refl) (may ks refusal.TextLength refl))
+    (by_check ks (breaks11 text) _ _ (may ks refusal.Text refl) (by_check ks (ltb n (made_length d (length text) fill)) _ _ (may ks refusal.Room refl) (may_take ks)))
 
 moving : (side : List ℕ) (w from into : ℕ) → may_be (20 ∷ 18 ∷ []) (verdict_of (permute_answer side w from into)) ≡ true
 unfolding permute_answer
 moving side w from into = go (breaks20 side w) (breaks18 (bytes_in side w) from into)
   where
-    go : (a b : Bool) → may_be (20 ∷ 18 ∷ []) (verdict_of (cond a (Answers.refused refusal.Subtiles) (cond b (Answers.refused refusal.Room) (Done.Taken (bytes_in side w))))) ≡ true
-    go true b = may (20 ∷ 18 ∷ []) 20 0 refl
-    go false true = may (20 ∷ 18 ∷ []) 18 0 refl
+    go : (a b : Bool) → may_be (20 ∷ 18 ∷ []) (verdict_of {A = ℕ} (cond a (Err refusal.Subtiles) (cond b (Err refusal.Room) (Ok (bytes_in side w))))) ≡ true
+    go true b = may (20 ∷ 18 ∷ []) refusal.Subtiles refl
+    go false true = may (20 ∷ 18 ∷ []) refusal.Room refl
     go false false = may_take (20 ∷ 18 ∷ [])
 
 pub numbers : RefusedByNumber
 unfolding answer_of kind_answer view_verdict make_answer view
 numbers = record {
   opening = opening;
-  brick_kind = λ r f e. let ks : List ℕ = 14 ∷ 16 ∷ 12 ∷ [] in rw (verdict_found (kind_verdict r f e)) (kind ks r f e (may ks 14 0 refl) (may ks 16 0 refl) (may ks 12 e refl));
-  brick_view = λ r f l e. by_then view (kind_verdict r f e) (shown_verdict r (kind_in r f e) l) (kind view r f e (may view 14 0 refl) (may view 16 0 refl) (may view 12 e refl)) (shown r (kind_in r f e) l);
+  brick_kind = λ r f e. let ks : List ℕ = 14 ∷ 16 ∷ 12 ∷ [] in rw (verdict_done (kind_verdict r f e) (brick_of r.description.datatype (kind_in r f e))) (kind ks r f e (may ks refusal.Record refl) (may ks refusal.Index refl) (may ks (refusal.Range e) refl));
+  brick_view = λ r f l e. by_then view (kind_verdict r f e) (shown_verdict r (kind_in r f e) l) (kind view r f e (may view refusal.Record refl) (may view refusal.Index refl) (may view (refusal.Range e) refl)) (shown r (kind_in r f e) l);
   region-call = λ r f c. rw (verdict_done (verdict_on r f c) (moves r c)) (region-verdict r f c);
   position = placing;
   strings = walking;
@@ -194,8 +189,8 @@ numbers = record {
 -- ---- what a refused call leaves
 
 by_answer : (a : Done) (x : Refusal) (moved buffer : List ℕ) → verdict_of a ≡ refused x → buffer_after a moved buffer ≡ buffer
-by_answer (Done.Taken n) x moved buffer e = let z : ◌≡◌ {A = ℕ} 0 1 = cc in absurd (omega arith)
-by_answer (Done.Refused y) x moved buffer e = refl
+by_answer (Ok n) x moved buffer e = let z : ◌≡◌ {A = ℕ} 0 1 = cc in absurd (omega arith)
+by_answer (Err y) x moved buffer e = refl
 
 region-call : (r : Record) (f : List ℕ) (e : Event) (x : Refusal) → CallOn r f e → verdict_of e.answer ≡ refused x → (e.cube ≡ f) × (e.buffers ≡ lent e.call)
 unfolding answer_of

@@ -6,7 +6,8 @@ use Rattle.endian.specs.Bytes.{le, lows}
 use Rattle.endian.specs.Loops.{first_from, sum_to}
 use Rattle.floats.specs.Rules.{integer_of, finite, range_ok}
 use Rattle.geometry.specs.Geometry.{halved, level_base, entry_of}
-use Rattle.record.specs.Answers.{refused_at}
+use Rattle.record.specs.Answers.{refused}
+use Rattle.record.specs.declared.Refusal.TheVariants as refusal
 use Rattle.record.specs.Types.{coding_of, width_of, value_of}
 use Rattle.record.specs.Header.{version_of, description_of, text_length_of}
 use Rattle.record.specs.Record.{levels_of, bricks_of, alphas_of, brick_bytes_of, table_of, header_of, record_of}

@@ -4,7 +4,8 @@ use Rattle.std.specs.Float.{binary64}
 use Rattle.std.specs.Float.Ieee.{of_int}
 use Rattle.endian.specs.Bytes.{lows}
 use Rattle.geometry.specs.Geometry.{bricks_in, alphas_in, item_of}
-use Rattle.record.specs.Answers.{refused_at}
+use Rattle.record.specs.Answers.{refused}
+use Rattle.record.specs.declared.Refusal.TheVariants as refusal
 use Rattle.record.specs.Types.{value_of}
 use Rattle.record.specs.Header.{id_at}
 use Rattle.record.specs.Record.{side_of, extent_along, levels_of, bricks_of, alphas_of, brick_bytes_of, header_of, record_of}

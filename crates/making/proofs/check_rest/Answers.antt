@@ -8,14 +8,14 @@ pub check11-requires : goal.check11-requires
 check11-requires c = omega (arith, text_few _ _ c.requires)
 
 pub returns-then-check11 : goal.returns-then-check11
-returns-then-check11 c = c.refuse.ensures ∙ rest_11 _ _ _ _ (sym c.check11.ensures ∙ c.if-check11.true)
+returns-then-check11 c = rest_11 _ _ _ _ (sym c.check11.ensures ∙ c.if-check11.true)
 
 pub overflow_cast-text : goal.overflow_cast-text
 overflow_cast-text c = record { fits = omega (arith, text_few _ _ c.requires) }
 
 pub returns-then-room-plan : goal.returns-then-room-plan
 returns-then-room-plan c =
-    c.refuse-then-room-plan.ensures ∙ rest_18 _ _ _ _ _ (plan_length _ _ _ _ c.plan_of-plan.ensures) (sym c.check11.ensures ∙ c.if-check11.false) c.if-room-plan.true
+    rest_18 _ _ _ _ _ (plan_length _ _ _ _ c.plan_of-plan.ensures) (sym c.check11.ensures ∙ c.if-check11.false) c.if-room-plan.true
 
 pub returns : goal.returns
 returns c =

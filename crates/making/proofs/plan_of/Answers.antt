@@ -1,6 +1,7 @@
 -- The numbers of a plan, and that none of them wraps.
 use mathlib.Core.Path.{◌≡◌, ap, ◌∙◌}
-use Prim.Native.Nat.{ℕ}
+use Prim.Native.Nat.{ℕ, ◌-◌, ◌%◌}
+use native.Mathlib.Nat.{mod-lt}
 use native.Mathlib.Omega.{arith}
 use Rattle.geometry.specs.Geometry.{header_end, shape_of}
 use Rattle.geometry.specs.declared.Shape.{Shape}
@@ -10,7 +11,7 @@ use Rattle.record.specs.Answers.{Taken}
 use Rattle.record.proofs.Laws.{shape-bricks, shape-alphas}
 use Rattle.checks.specs.Checks.{described}
 use Rattle.checks.proofs.Described.{described-all, described_sized}
-use Rattle.making.proofs.Sizes.{text_few, bricks-few, alphas-le-bricks, multiple, all-bytes, Numbers, numbers, plan_constant, plan_stored}
+use Rattle.making.proofs.Sizes.{text_few, bricks-few, alphas-le-bricks, next_multiple, all-bytes, Numbers, numbers, plan_constant, plan_stored}
 use Rattle.making.proofs.plan_of.Goals as goal
 
 shaped : (d : Description) {s : Shape} → s ≡ shape_of (count_of d 0) (count_of d 1) (count_of d 2) → (s.alphas ≡ alphas_of d) × (s.bricks ≡ bricks_of d)
@@ -32,20 +33,14 @@ header_end-header-requires c =
     let few = bricks-few c.args.d c.args.text c.requires in
     ((text_few _ _ c.requires).1, omega (arith, p, few, alphas-le-bricks c.args.d c.args.text c.requires), omega (arith, p, few))
 
-pub ceil_div-requires : goal.ceil_div-requires
-ceil_div-requires c =
-    let n = planned c.args.d c.args.text c.requires c.shape_in-shape.ensures c.header_end-header.ensures c.brick_bytes_in-brick.ensures.0 in
-    (n.s_pos, omega (arith, n.h_few, n.s_few))
+pub next_multiple_of-start-requires-clause-nonzero : goal.next_multiple_of-start-requires-clause-nonzero
+next_multiple_of-start-requires-clause-nonzero c =
+    (planned c.args.d c.args.text c.requires c.shape_in-shape.ensures c.header_end-header.ensures c.brick_bytes_in-brick.ensures.0).s_pos
 
-pub overflow_mul-start : goal.overflow_mul-start
-overflow_mul-start c =
+pub next_multiple_of-start-requires-clause-fits : goal.next_multiple_of-start-requires-clause-fits
+next_multiple_of-start-requires-clause-fits c =
     let n = planned c.args.d c.args.text c.requires c.shape_in-shape.ensures c.header_end-header.ensures c.brick_bytes_in-brick.ensures.0 in
-    record { fits = omega (arith, n, multiple _ _ _ n.s_pos c.ceil_div.ensures) }
-
-pub overflow_sub-after : goal.overflow_sub-after
-overflow_sub-after c =
-    let n = planned c.args.d c.args.text c.requires c.shape_in-shape.ensures c.header_end-header.ensures c.brick_bytes_in-brick.ensures.0 in
-    omega (arith, multiple _ _ _ n.s_pos c.ceil_div.ensures)
+    omega (arith, n, mod-lt (c.brick_bytes_in-brick.result - c.header_end-header.result % c.brick_bytes_in-brick.result) n.s_pos)
 
 pub overflow_mul-after : goal.overflow_mul-after
 overflow_mul-after c =
@@ -55,12 +50,12 @@ overflow_mul-after c =
 pub overflow_add-after : goal.overflow_add-after
 overflow_add-after c =
     let n = planned c.args.d c.args.text c.requires c.shape_in-shape.ensures c.header_end-header.ensures c.brick_bytes_in-brick.ensures.0 in
-    record { fits = omega (arith, n, multiple _ _ _ n.s_pos c.ceil_div.ensures, all-bytes _ _ n.b_few n.s_few) }
+    record { fits = omega (arith, n, c.next_multiple_of-start.ensures, all-bytes _ _ n.b_few n.s_few) }
 
 pub overflow_add-result : goal.overflow_add-result
 overflow_add-result c =
     let n = planned c.args.d c.args.text c.requires c.shape_in-shape.ensures c.header_end-header.ensures c.brick_bytes_in-brick.ensures.0 in
-    record { fits = omega (arith, n, multiple _ _ _ n.s_pos c.ceil_div.ensures, all-bytes _ _ n.b_few n.s_few) }
+    record { fits = omega (arith, n, c.next_multiple_of-start.ensures, all-bytes _ _ n.b_few n.s_few) }
 
 pub returns-in-Constant : goal.returns-in-Constant
 returns-in-Constant c =
@@ -70,4 +65,5 @@ returns-in-Constant c =
 pub returns-in-Stored : goal.returns-in-Stored
 returns-in-Stored c =
     let n = planned c.args.d c.args.text c.requires c.shape_in-shape.ensures c.header_end-header.ensures c.brick_bytes_in-brick.ensures.0 in
-    plan_stored _ _ _ _ _ _ n _ _ c.ceil_div.ensures c.in-Stored.is
+    let m = c.next_multiple_of-start.ensures in
+    plan_stored _ _ _ _ _ _ n _ _ (next_multiple _ _ _ n.s_pos m.lower_bound m.upper_bound m.multiple) c.in-Stored.is

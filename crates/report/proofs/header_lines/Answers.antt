@@ -1,10 +1,10 @@
-use Rattle.text.proofs.Pour.{poured_step}
+use Rattle.text.proofs.Pour.{writes_step}
 use Rattle.report.specs.Listing.{header_lines}
 use Rattle.report.proofs.header_lines.Goals as goal
 
 pub returns : goal.returns
 unfolding header_lines
 returns c =
-    let two = poured_step c.number_line-at.ensures c.number_line-at-2.ensures in
-    let four = poured_step (poured_step two c.three_line-at.ensures) c.three_line-at-2.ensures in
-    poured_step (poured_step (poured_step four c.number_line-at-3.ensures) c.number_line-at-4.ensures) c.number_line.ensures
+    let two = writes_step c.number_line.ensures c.number_line-2.ensures in
+    let four = writes_step (writes_step two c.three_line.ensures) c.three_line-2.ensures in
+    writes_step (writes_step (writes_step four c.number_line-3.ensures) c.number_line-4.ensures) c.number_line-5.ensures

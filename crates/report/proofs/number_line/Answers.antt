@@ -1,5 +1,5 @@
-use Rattle.text.proofs.Pour.{poured_step}
+use Rattle.text.proofs.Pour.{writes_step}
 use Rattle.report.proofs.number_line.Goals as goal
 
 pub returns : goal.returns
-returns c = poured_step c.numbered-next.ensures c.push_bytes.ensures
+returns c = writes_step c.numbered.ensures c.push.ensures

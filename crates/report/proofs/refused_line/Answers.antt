@@ -1,5 +1,7 @@
-use Rattle.text.proofs.Pour.{poured_step}
+use mathlib.Core.Path.{◌∙◌}
+use Rattle.text.proofs.Pour.{writes_step}
 use Rattle.report.proofs.refused_line.Goals as goal
 
 pub returns : goal.returns
-returns c = poured_step c.numbered-next.ensures c.number_line.ensures
+returns c =
+    writes_step (rw (c.from.ensures ∙ c.number.ensures) at c.numbered.ensures) (rw (c.from-2.ensures ∙ c.entry.ensures) at c.number_line.ensures)

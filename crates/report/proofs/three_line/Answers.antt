@@ -1,6 +1,5 @@
-use Rattle.text.proofs.Pour.{poured_step}
+use Rattle.text.proofs.Pour.{writes_step}
 use Rattle.report.proofs.three_line.Goals as goal
 
 pub returns : goal.returns
-returns c =
-    poured_step (poured_step c.numbered-first.ensures c.numbered-second.ensures) c.number_line.ensures
+returns c = writes_step (writes_step c.numbered.ensures c.numbered-2.ensures) c.number_line.ensures

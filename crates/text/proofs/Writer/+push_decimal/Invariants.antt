@@ -1,4 +1,4 @@
-use Rattle.text.proofs.+push_decimal.Given as goal
+use Rattle.text.proofs.Writer.+push_decimal.Given as goal
 
 abbrev pub decreases-push_decimal : goal.decreases-push_decimal
 decreases-push_decimal l = l.n

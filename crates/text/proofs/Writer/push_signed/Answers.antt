@@ -1,0 +1,14 @@
+use Rattle.text.proofs.Decimal.{signed_positive, signed_past, signed_negative}
+use Rattle.text.proofs.Pour.{writes_step}
+use Rattle.text.proofs.Writer.push_signed.Goals as goal
+
+pub returns-then-n-half : goal.returns-then-n-half
+returns-then-n-half c = rw (signed_positive _ _ c.if-n-half.true) c.push_decimal.ensures
+
+pub returns-then-bits-whole : goal.returns-then-bits-whole
+returns-then-bits-whole c =
+    rw (signed_negative _ _ c.if-n-half.false c.if-bits-whole.true) (writes_step c.push.ensures c.push_decimal-then-bits-whole.ensures)
+
+pub returns-else-bits-whole : goal.returns-else-bits-whole
+returns-else-bits-whole c =
+    rw (signed_past _ _ c.if-n-half.false c.if-bits-whole.false) c.push_decimal-else-bits-whole.ensures
