@@ -11,9 +11,7 @@ use Rattle.record.specs.Record.{brick_bytes_of}
 use Rattle.record.specs.declared.Coding.{Coding}
 use Rattle.record.specs.declared.Record.{Record}
 use Rattle.record.specs.declared.Refusal.{Refusal}
-use Rattle.record.specs.Answers.{Verdict}
-use Rattle.record.specs.Answers.{Taken}
-use Rattle.record.specs.Answers.{refused}
+use Rattle.record.specs.Answers.{Verdict, Taken, refused}
 use Rattle.checks.specs.Fits.{breaks14_with}
 use Rattle.checks.proofs.Records.{Fit, fits-is, with_fit}
 use Rattle.table.specs.declared.Kind.TheVariants.{Stored}

@@ -8,14 +8,12 @@ use native.Mathlib.Omega.{arith}
 use lib.ListN.{length, take, drop}
 use denote.Ref.{Bor}
 use borrow.Author.Tests.{lt-ltb, le-ltb, ltb-false}
-use Rattle.record.specs.Answers.{refused}
+use Rattle.record.specs.Answers.{refused, Taken}
 use Rattle.record.specs.Types.{width_of}
 use Rattle.record.specs.Record.{side_of, brick_bytes_of}
 use Rattle.record.specs.declared.Description.{Description}
 use Rattle.record.specs.declared.Record.{Record}
 use Rattle.record.specs.declared.Refusal.{Refusal}
-use Rattle.record.specs.Answers.{Taken}
-use Rattle.record.specs.Answers.{refused}
 use Rattle.checks.specs.Checks.{all3, side_ok, breaks4}
 use Rattle.checks.proofs.Described.{passed, not-false, all3-each, side_multiple, Described}
 use Rattle.table.specs.declared.Kind.{Kind}
@@ -24,8 +22,7 @@ use Rattle.table.specs.Entries.{kind_in}
 use Rattle.opening.proofs.Rules.{both_taken}
 use Rattle.cube.specs.declared.MissingBrick.{MissingBrick}
 use Rattle.cube.specs.Places.{item_bytes, missing_brick}
-use Rattle.bricks.specs.Bricks.{fill_of, filled_with, room_verdict, value_verdict, filler_verdict, kind_verdict, shown_verdict, view_verdict}
-use Rattle.bricks.specs.Bricks.{View, of_file, of_filler, shown_of, view_of, Shows}
+use Rattle.bricks.specs.Bricks.{fill_of, filled_with, room_verdict, value_verdict, filler_verdict, kind_verdict, shown_verdict, view_verdict, View, of_file, of_filler, shown_of, view_of, Shows}
 use Rattle.record.specs.declared.Refusal.TheVariants as refusal
 
 four_times : (a b c w m : ℕ) → a ≡ 4 * m → a * b * c * w ≡ 4 * (m * b * c * w)

@@ -15,19 +15,15 @@ pub use Rattle.endian.proofs.Search.{both, either}
 use Rattle.geometry.specs.Limits.{least_exponent, IsPower, size_limit, shortest_text, longest_text, side_room}
 use Rattle.geometry.specs.Geometry.{Between, Power}
 use Rattle.geometry.proofs.Powers.{power_of, power-is, zeros-power}
-use Rattle.record.specs.Answers.{refused, is_taken, and_then}
+use Rattle.record.specs.Answers.{refused, is_taken, and_then, Verdict, Taken}
 use Rattle.record.specs.Types.{coding_of, item_width, no_type, width_of}
 use Rattle.record.specs.Record.{bricks_of, brick_bytes_of, Sized}
 use Rattle.record.specs.declared.Description.{Description}
-use Rattle.record.specs.Answers.{Verdict}
-use Rattle.record.specs.Answers.{Taken}
-use Rattle.record.specs.Answers.{refused}
 use Rattle.record.proofs.Laws.{coding_each}
 use Rattle.checks.specs.Checks.{all3, side_ok, size_ok, brick_limit, breaks4, verdict5, breaks5, breaks6, breaks7, breaks8, breaks9, fields_fit, described}
 use Rattle.record.specs.declared.Refusal.{Refusal}
 use Rattle.record.specs.declared.Refusal.TheVariants as refusal
-use Rattle.std.specs.Prelude.{Ok}
-use Rattle.std.specs.Prelude.{Err}
+use Rattle.std.specs.Prelude.{Ok, Err}
 
 -- one check peeled off: it did not apply, and the later ones took the call
 pub passed : (b : Bool) (x : Refusal) (later : Verdict) → cond b (refused x) later ≡ Taken → (b ≡ false) × (later ≡ Taken)

@@ -4,12 +4,10 @@ use Rattle.endian.specs.Loops.{sum_to}
 use Rattle.geometry.specs.Limits.{least_exponent, power_in, size_limit, shortest_text, longest_text}
 pub use Rattle.geometry.specs.Limits.{brick_limit}
 use Rattle.floats.specs.Rules.{finite_bits, range_ok}
-use Rattle.record.specs.Answers.{refused, is_taken, and_then}
+use Rattle.record.specs.Answers.{refused, is_taken, and_then, Verdict, Taken}
 use Rattle.record.specs.Types.{coding_of, type_verdict, no_type}
 use Rattle.record.specs.Record.{bricks_of}
 use Rattle.record.specs.declared.Description.{Description}
-use Rattle.record.specs.Answers.{Verdict}
-use Rattle.record.specs.Answers.{Taken}
 use Rattle.record.specs.declared.Refusal.TheVariants as refusal
 
 -- a test of all three directions

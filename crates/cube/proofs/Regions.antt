@@ -12,11 +12,9 @@ use borrow.Author.Tests.{leb-true, leb-false, ltb-false, lt-ltb, le-ltb, le-leb,
 use Rattle.endian.specs.Loops.{tri}
 use Rattle.endian.proofs.Digits.{tri-lt, pos-right}
 use Rattle.endian.proofs.Search.{any_at, any-is}
-use Rattle.record.specs.Answers.{refused}
+use Rattle.record.specs.Answers.{refused, Verdict, Taken}
 use Rattle.record.specs.Record.{extent_along, levels_of}
 use Rattle.record.specs.declared.Record.{Record}
-use Rattle.record.specs.Answers.{Verdict}
-use Rattle.record.specs.Answers.{Taken}
 use Rattle.checks.specs.Fits.{breaks14_with}
 use Rattle.checks.proofs.Described.{passed, both, not-false}
 use Rattle.checks.proofs.Records.{Fit, with_fit}

@@ -1,9 +1,7 @@
 -- Calls on a cube (FORMAT 10.7 to 10.9): their answers, and what the cube and each lent buffer hold after them. r is the record, f the cube's bytes.
 use Rattle.std.specs.Prelude.{List, [], ◌∷◌, ℕ, ◌*◌, Float, length}
-use Rattle.record.specs.Answers.{answered}
-use Rattle.record.specs.Answers.{Done}
+use Rattle.record.specs.Answers.{answered, Done, Verdict}
 use Rattle.record.specs.declared.Record.{Record}
-use Rattle.record.specs.Answers.{Verdict}
 use Rattle.cube.specs.declared.Region.{Region}
 use Rattle.cube.specs.Places.{item_bytes, rows_of}
 use Rattle.cube.specs.Regions.{size_of, raw_rows, float_rows, written, raw_verdict, float_verdict, write_verdict, after, over}

@@ -1,13 +1,10 @@
 -- Regions (FORMAT 8.7, 8.8, 9.3): their order, what reading one gives and what writing one leaves, the entries that one touches, and the checks.
-use Rattle.std.specs.Prelude.{Bool, true, false, not, ◌&&◌, cond, List, [], ◌∷◌, ◌++◌, ℕ, ◌+◌, ◌-◌, ◌*◌, ◌/◌, ◌%◌, eqb, leb, ltb, Float, get_or, length, drop}
+use Rattle.std.specs.Prelude.{Bool, true, false, not, ◌&&◌, cond, List, [], ◌∷◌, ◌++◌, ℕ, ◌+◌, ◌-◌, ◌*◌, ◌/◌, ◌%◌, eqb, leb, ltb, Float, get_or, length, drop, Ok, Err}
 use Rattle.endian.specs.Loops.{cat, up, first, any, tri}
 use Rattle.endian.specs.Bytes.{peek, put}
-use Rattle.record.specs.Answers.{refused, unless_found}
+use Rattle.record.specs.Answers.{refused, unless_found, Verdict, Taken}
 use Rattle.record.specs.Record.{extent_along, bricks_of}
 use Rattle.record.specs.declared.Record.{Record}
-use Rattle.record.specs.Answers.{Verdict}
-use Rattle.record.specs.Answers.{Taken}
-use Rattle.record.specs.Answers.{refused}
 use Rattle.checks.specs.Fits.{breaks14_with}
 use Rattle.table.specs.Entries.{offset_in, breaks12}
 use Rattle.table.specs.declared.Kind.{Kind}
@@ -16,8 +13,6 @@ use Rattle.cube.specs.declared.Region.{Region}
 use Rattle.cube.specs.Places.{Place, Row, item_bytes, kind_in, brick_of, byte_of, raw_of, float_of}
 use Rattle.record.specs.declared.Refusal.{Refusal}
 use Rattle.record.specs.declared.Refusal.TheVariants as refusal
-use Rattle.std.specs.Prelude.{Ok}
-use Rattle.std.specs.Prelude.{Err}
 
 -- start and count of a region in direction i
 abbrev pub start_of : Region → ℕ → ℕ

@@ -11,13 +11,10 @@ use borrow.Author.Tests.{lt-ltb, le-ltb, ltb-false}
 use Rattle.endian.specs.Loops.{cat}
 use Rattle.endian.specs.Bytes.{lows}
 use Rattle.text.specs.Text.{poured, Pours}
-use Rattle.record.specs.Answers.{refused, and_then}
+use Rattle.record.specs.Answers.{refused, and_then, Verdict, Taken}
 use Rattle.record.specs.Record.{bricks_of, alphas_of, table_of, header_of}
 use Rattle.record.specs.declared.Description.{Description}
 use Rattle.record.specs.declared.Refusal.{Refusal}
-use Rattle.record.specs.Answers.{Verdict}
-use Rattle.record.specs.Answers.{Taken}
-use Rattle.record.specs.Answers.{refused}
 use Rattle.checks.specs.Checks.{breaks11, described}
 use Rattle.checks.proofs.Described.{passed}
 use Rattle.making.specs.Making.{zero_bytes, file_header, brick_fields, id_fields, grid_fields, current_fields, survey_fields, unit_fields, info_header, entry_bytes, after_headers, made_length, made_file, make_verdict, make_answer, make_buffer}
@@ -28,8 +25,7 @@ use Rattle.making.specs.declared.Plan.{Plan}
 use Rattle.endian.proofs.Cats.{cat-same, length-cat}
 use Rattle.endian.proofs.Puts.{length-lows}
 use Rattle.record.specs.declared.Refusal.TheVariants as refusal
-use Rattle.std.specs.Prelude.{Ok}
-use Rattle.std.specs.Prelude.{Err}
+use Rattle.std.specs.Prelude.{Ok, Err}
 
 -- an entry, from the first and the step
 pub entry_is : (d : Description) (n : ℕ) (fill : Fill) (e : ℕ) → stepped (first_entry d n fill) (entry_step d fill) e ≡ entry_bytes d n fill e

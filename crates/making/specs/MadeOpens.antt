@@ -5,12 +5,11 @@ use Rattle.endian.specs.Bytes.{Bytes, peek}
 use Rattle.endian.specs.Loops.{first_from, sum_to}
 use Rattle.floats.specs.Rules.{finite, range_ok}
 use Rattle.geometry.specs.Geometry.{halved}
-use Rattle.record.specs.Answers.{refused}
+use Rattle.record.specs.Answers.{refused, Taken}
 use Rattle.record.specs.Header.{text_of}
 use Rattle.record.specs.Types.{coding_of, width_of}
 use Rattle.record.specs.Record.{bricks_of, alphas_of, brick_bytes_of, header_of, record_of}
 use Rattle.record.specs.declared.Description.{Description}
-use Rattle.record.specs.Answers.{Taken}
 use Rattle.checks.specs.Checks.{described, breaks4, breaks5, breaks6, breaks7, breaks8, breaks9, breaks11, zeros, side_ok, size_ok}
 use Rattle.table.specs.declared.Kind.{Kind}
 use Rattle.table.specs.declared.Kind.TheVariants as kind

@@ -1,24 +1,18 @@
 -- Making a cube (FORMAT 10.12): version 3, from a description and a lent text.
-use Rattle.std.specs.Prelude.{cond, List, [], ◌∷◌, ◌++◌, ℕ, ◌+◌, ◌-◌, ◌*◌, ◌^◌, ltb, get_or, length, drop, replicate}
+use Rattle.std.specs.Prelude.{cond, List, [], ◌∷◌, ◌++◌, ℕ, ◌+◌, ◌-◌, ◌*◌, ◌^◌, ltb, get_or, length, drop, replicate, Ok, Err}
 use Rattle.std.specs.Float.{binary32}
 use Rattle.std.specs.Float.Ieee.{of_bits}
 use Rattle.endian.specs.Loops.{cat}
 use Rattle.endian.specs.Bytes.{lows}
 use Rattle.geometry.specs.Geometry.{ceil_div}
 use Rattle.floats.specs.Rules.{survey_size}
-use Rattle.record.specs.Answers.{refused, and_then, answered}
+use Rattle.record.specs.Answers.{refused, and_then, answered, Done, Verdict, Taken}
 use Rattle.record.specs.Record.{size_of, bricks_of, alphas_of, brick_bytes_of, header_of}
 use Rattle.record.specs.declared.Description.{Description}
-use Rattle.record.specs.Answers.{Done}
-use Rattle.record.specs.Answers.{Verdict}
-use Rattle.record.specs.Answers.{Taken}
-use Rattle.record.specs.Answers.{refused}
 use Rattle.checks.specs.Checks.{breaks11, described}
 use Rattle.making.specs.declared.Fill.{Fill}
 use Rattle.making.specs.declared.Fill.TheVariants.{Constant, Stored}
 use Rattle.record.specs.declared.Refusal.TheVariants as refusal
-use Rattle.std.specs.Prelude.{Ok}
-use Rattle.std.specs.Prelude.{Err}
 
 -- n zero bytes
 abbrev pub zero_bytes : ℕ → List ℕ

@@ -3,11 +3,9 @@ use Rattle.std.specs.Prelude.{true, cond, List, [], ◌∷◌, ◌++◌, ◌≡�
 use Rattle.geometry.specs.Limits.{size_limit}
 use Rattle.endian.specs.Bytes.{lows}
 use Rattle.floats.specs.Rules.{finite_bits}
-use Rattle.record.specs.Answers.{refused}
+use Rattle.record.specs.Answers.{refused, Verdict, Taken}
 use Rattle.record.specs.Record.{size_of, bricks_of, alphas_of, brick_bytes_of}
 use Rattle.record.specs.declared.Description.{Description}
-use Rattle.record.specs.Answers.{Verdict}
-use Rattle.record.specs.Answers.{Taken}
 use Rattle.checks.specs.Checks.{breaks11}
 use Rattle.making.specs.Making.{zero_bytes, survey_of, file_header, info_header, first_brick, after_headers, made_length}
 use Rattle.making.specs.declared.Fill.{Fill}

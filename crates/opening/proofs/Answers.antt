@@ -6,18 +6,15 @@ use Prim.Native.Nat.{ℕ, ◌≤◌, ◌<◌}
 use lib.ListN.{length}
 use borrow.Author.Tests.{lt-ltb, le-ltb}
 use Rattle.endian.specs.Loops.{first}
-use Rattle.record.specs.Answers.{answered}
+use Rattle.record.specs.Answers.{answered, Taken, refused}
 use Rattle.std.specs.Prelude.{Err}
 use Rattle.record.specs.Header.{text_of}
 use Rattle.record.specs.Record.{bricks_of, header_of}
 use Rattle.record.specs.declared.Record.{Record}
 use Rattle.record.specs.declared.Refusal.{Refusal}
-use Rattle.record.specs.Answers.{Taken}
-use Rattle.record.specs.Answers.{refused}
 use Rattle.checks.specs.Checks.{breaks11}
 use Rattle.table.specs.Entries.{breaks12, breaks13}
-use Rattle.opening.specs.Opening.{length_verdict, text_verdict, range_verdict, overlap_verdict, entries_verdict, body_verdict}
-use Rattle.opening.specs.Opening.{header_verdict, open_verdict, record_in, opened_of}
+use Rattle.opening.specs.Opening.{length_verdict, text_verdict, range_verdict, overlap_verdict, entries_verdict, body_verdict, header_verdict, open_verdict, record_in, opened_of}
 use Rattle.record.specs.declared.Refusal.TheVariants as refusal
 
 module _ (r : Record) (f : List ℕ) where

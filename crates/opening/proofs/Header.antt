@@ -7,11 +7,10 @@ use native.Mathlib.Omega.{arith}
 use lib.ListN.{length}
 use borrow.Author.Tests.{ltb-false, lt-ltb, le-ltb}
 use Rattle.geometry.specs.Limits.{text_start}
-use Rattle.record.specs.Answers.{refused}
+use Rattle.record.specs.Answers.{refused, Taken}
 use Rattle.record.specs.Header.{version_of, description_of, text_length_of}
 use Rattle.record.specs.Record.{table_of, record_of}
 use Rattle.record.specs.declared.Description.{Description}
-use Rattle.record.specs.Answers.{Taken}
 use Rattle.checks.specs.Checks.{breaks2, breaks3, described}
 use Rattle.checks.proofs.Described.{passed, Described, described-all}
 use Rattle.table.specs.Entries.{Derived}

@@ -18,27 +18,22 @@ use Rattle.endian.proofs.Search.{first_before}
 use Rattle.endian.proofs.Bytes.{le_bound}
 use Rattle.floats.specs.Rules.{finite_bits, range_ok}
 use Rattle.floats.proofs.Patterns.{range-finite}
-use Rattle.record.specs.Answers.{and_then, unless_found}
+use Rattle.record.specs.Answers.{and_then, unless_found, Verdict, Taken, refused}
 use Rattle.record.specs.declared.Refusal.{Refusal}
 use Rattle.record.specs.Types.{coding_of, no_type}
 use Rattle.record.specs.Header.{three_at, two_at, version_of, description_of, text_length_of, text_of}
 use Rattle.record.specs.Record.{side_of, size_of, bricks_of, header_of, record_of}
 use Rattle.record.specs.declared.Description.{Description}
-use Rattle.record.specs.Answers.{Verdict}
-use Rattle.record.specs.Answers.{Taken}
-use Rattle.record.specs.Answers.{refused}
 use Rattle.checks.specs.Checks.{all3, side_ok, size_ok, brick_limit, zeros, breaks2, breaks3, breaks4, breaks5, breaks6, breaks7, breaks8, breaks9, breaks11}
 use Rattle.checks.proofs.Described.{passed, not-false, both, either, all3-each, each_of, side-exponent, side-is, size-range, described-is, described-few, described_text}
 use Rattle.checks.proofs.Records.{Words, finites, record_fits_lem, fit_with}
 use Rattle.table.specs.Entries.{breaks12, breaks13, Derived}
 use Rattle.table.proofs.Search.{missed}
 use Rattle.table.proofs.Tables.{header_table, stored-inside, inside-passes, stored_apart, apart_passes}
-use Rattle.opening.specs.Opening.{length_verdict, text_verdict, range_verdict, overlap_verdict, entries_verdict, body_verdict}
-use Rattle.opening.specs.Opening.{header_verdict, open_verdict, record_in}
+use Rattle.opening.specs.Opening.{length_verdict, text_verdict, range_verdict, overlap_verdict, entries_verdict, body_verdict, header_verdict, open_verdict, record_in}
 use Rattle.opening.specs.Cube.{Side, Finite, CodingRange, Cube, OpensExactly, RecordPasses}
 use Rattle.opening.proofs.Header.{Head, head, text_before, made_derived}
-use Rattle.std.specs.Prelude.{Ok}
-use Rattle.std.specs.Prelude.{Err}
+use Rattle.std.specs.Prelude.{Ok, Err}
 use Rattle.record.specs.declared.Refusal.TheVariants as refusal
 
 -- a verdict whose first part and whose later part took the call

@@ -6,13 +6,11 @@ use Prim.Native.Nat.{ℕ, ◌<◌}
 use native.Mathlib.Nat.{le_refl}
 use native.Mathlib.Omega.{arith}
 use borrow.Author.Tests.{lt-ltb, le-ltb}
-use Rattle.record.specs.Answers.{refused}
+use Rattle.record.specs.Answers.{refused, Verdict, Taken}
 use Rattle.record.specs.declared.Refusal.{Refusal}
 use Rattle.std.specs.Prelude.{Option, None, Some}
 use Rattle.std.specs.List.{find}
 use Rattle.record.specs.declared.Record.{Record}
-use Rattle.record.specs.Answers.{Verdict}
-use Rattle.record.specs.Answers.{Taken}
 use Rattle.checks.specs.Fits.{breaks14_with}
 use Rattle.checks.proofs.Records.{with_fit, fits-is}
 use Rattle.runs.specs.Runs.{Allowed}

@@ -4,8 +4,7 @@ use Rattle.std.specs.Prelude.{Bool, true, not, cond, List, [], ◌∷◌, ◌≡
 use Rattle.endian.specs.Loops.{cat}
 use Rattle.record.specs.Record.{side_of, bricks_along}
 use Rattle.record.specs.declared.Record.{Record}
-use Rattle.record.specs.Answers.{Verdict}
-use Rattle.record.specs.Answers.{Taken}
+use Rattle.record.specs.Answers.{Verdict, Taken}
 use Rattle.checks.specs.Fits.{record_fits}
 use Rattle.table.specs.Entries.{kind_at, outside_at}
 use Rattle.table.specs.declared.Table.{Table}

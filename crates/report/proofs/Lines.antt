@@ -12,8 +12,7 @@ use Rattle.text.specs.declared.Writer.{Writer}
 use Rattle.text.proofs.Pour.{writes_none, writes_step}
 use Rattle.record.specs.declared.Record.{Record}
 use Rattle.record.specs.declared.Refusal.{Refusal}
-use Rattle.record.specs.Answers.{Taken}
-use Rattle.record.specs.Answers.{refused}
+use Rattle.record.specs.Answers.{Taken, refused}
 use Rattle.table.specs.declared.Kind.{Kind}
 use Rattle.table.specs.declared.Table.{Table}
 use Rattle.table.specs.Entries.{kind_at, table_in, kind_in, Derived}

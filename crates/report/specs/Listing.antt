@@ -1,26 +1,19 @@
 -- What the listing says of a file (FORMAT 14), in bytes of text.
-use Rattle.std.specs.Prelude.{cond, List, [], ◌∷◌, ◌++◌, ◌≡◌, refl, ℕ, ltb, get_or, length}
+use Rattle.std.specs.Prelude.{cond, List, [], ◌∷◌, ◌++◌, ◌≡◌, refl, ℕ, ltb, get_or, length, Result, Ok, Err}
 use Rattle.endian.specs.Loops.{cat}
 use Rattle.floats.specs.Rules.{signed_of}
 use Rattle.text.specs.Text.{bytes_of, digits, decimal, signed_decimal}
 use Rattle.record.specs.Types.{coding_of}
-use Rattle.std.specs.Prelude.{Result, Ok, Err}
-use Rattle.std.specs.Prelude.{Result, Ok, Err}
-use Rattle.std.specs.Prelude.{Result, Ok, Err}
 use Rattle.record.specs.declared.Coding.{Coding}
 use Rattle.record.specs.declared.Coding.TheVariants.{Scaled, Float32}
 use Rattle.record.specs.declared.Record.{Record}
 use Rattle.record.specs.declared.Refusal.{Refusal}
-use Rattle.record.specs.Answers.{Verdict, number, entry}
+use Rattle.record.specs.Answers.{Verdict, number, entry, Taken, refused}
 use Rattle.record.specs.declared.Refusal.TheVariants as refusal
-use Rattle.record.specs.Answers.{Taken}
-use Rattle.record.specs.Answers.{refused}
 use Rattle.table.specs.declared.Kind.{Kind}
 use Rattle.table.specs.declared.Kind.TheVariants.{Missing, Constant, Stored}
 use Rattle.table.specs.Entries.{kind_in}
 use Rattle.opening.specs.Opening.{open_verdict, record_in}
-use Rattle.std.specs.Prelude.{Ok}
-use Rattle.std.specs.Prelude.{Err}
 
 -- a space, and the end of a line
 abbrev pub space : List ℕ

@@ -17,10 +17,9 @@ use Rattle.endian.proofs.Search.{sum_part}
 use Rattle.checks.specs.Checks.{zeros, breaks11}
 use Rattle.checks.proofs.Described.{both, not-false}
 use Rattle.checks.proofs.Texts.{zeros_to, zero_more, other-more}
-use Rattle.strings.specs.Strings.{end_of, string_at, turn_of, place_from, place_of, strings_from, strings_of}
+use Rattle.strings.specs.Strings.{end_of, string_at, turn_of, place_from, place_of, strings_from, strings_of, item}
 use Rattle.strings.specs.Five.{nth, Five}
 use Rattle.std.specs.Prelude.{Some}
-use Rattle.strings.specs.Strings.{item}
 use Rattle.strings.proofs.Ends.{end_low, end_high, end_zero, end_before}
 use Rattle.strings.proofs.Turns.{turn-item, turn-done, place_next, place-stays, strings-item, strings-done}
 

@@ -12,21 +12,14 @@ use Rattle.geometry.specs.Limits.{text_start}
 use Rattle.endian.specs.Bytes.{peek}
 use Rattle.endian.proofs.Puts.{peek_part, length-peek}
 use Rattle.record.specs.declared.Record.{Record}
-use Rattle.record.specs.Answers.{Verdict}
-use Rattle.record.specs.Answers.{Taken}
-use Rattle.record.specs.Answers.{refused}
-use Rattle.strings.specs.Strings.{strings_verdict, text_in, end_of, string_at, turn_of, turn_string, place_of, turn_in, strings_of}
+use Rattle.record.specs.Answers.{Verdict, Taken, refused, verdict_of, answered}
+use Rattle.strings.specs.Strings.{strings_verdict, text_in, end_of, string_at, turn_of, turn_string, place_of, turn_in, strings_of, item}
 use Rattle.strings.specs.declared.Item.{Item}
 use Rattle.record.specs.declared.Refusal.{Refusal}
-use Rattle.record.specs.Answers.{verdict_of, answered}
-use Rattle.std.specs.Prelude.{Option, Result}
-use Rattle.std.specs.Prelude.{Some, None}
-use Rattle.strings.specs.Strings.{item}
+use Rattle.std.specs.Prelude.{Option, Result, Some, None, Ok, Err}
 use Rattle.strings.proofs.Ends.{end_low, end_high}
 use Rattle.strings.proofs.Turns.{turn-item, turn-done, string_done, string_nth, item-found}
 use Rattle.strings.proofs.Verdicts.{text_inside, taken-passes, text_taken, text_refused}
-use Rattle.std.specs.Prelude.{Ok}
-use Rattle.std.specs.Prelude.{Err}
 
 ok-same : {x y : Option Item} → ◌≡◌ {A = Result (Option Item) Refusal} (Ok x) (Ok y) → x ≡ y
 ok-same e = cc

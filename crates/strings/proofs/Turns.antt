@@ -9,10 +9,9 @@ use native.Mathlib.Omega.{arith}
 use lib.ListN.{get_or, length, drop_of_length-le}
 use lib.Seq.{take-nil}
 use borrow.Author.Tests.{lt-ltb, le-ltb}
-use Rattle.strings.specs.Strings.{end_of, string_at, turn_of, place_from, place_of, strings_from, strings_of}
+use Rattle.strings.specs.Strings.{end_of, string_at, turn_of, place_from, place_of, strings_from, strings_of, item}
 use Rattle.std.specs.Prelude.{Option, Some, None}
 use Rattle.strings.specs.declared.Item.{Item}
-use Rattle.strings.specs.Strings.{item}
 use Rattle.strings.proofs.Ends.{end_low}
 
 module _ (t : List ℕ) (at : ℕ) where

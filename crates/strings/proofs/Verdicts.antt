@@ -10,8 +10,7 @@ use Rattle.record.specs.Header.{text_of}
 use Rattle.record.specs.Record.{header_of}
 use Rattle.record.specs.declared.Record.{Record}
 use Rattle.record.specs.declared.Refusal.{Refusal}
-use Rattle.record.specs.Answers.{Taken}
-use Rattle.record.specs.Answers.{refused}
+use Rattle.record.specs.Answers.{Taken, refused}
 use Rattle.checks.specs.Checks.{breaks11}
 use Rattle.checks.specs.Fits.{breaks14_with}
 use Rattle.checks.proofs.Described.{passed, described_text}

@@ -4,8 +4,7 @@ use Rattle.std.proofs.Math.Option
 use Rattle.record.specs.Header.{text_of}
 use Rattle.record.specs.declared.Record.{Record}
 use Rattle.record.specs.declared.Refusal.{Refusal}
-use Rattle.record.specs.Answers.{Taken}
-use Rattle.record.specs.Answers.{refused, verdict_of}
+use Rattle.record.specs.Answers.{Taken, refused, verdict_of}
 use Rattle.checks.specs.Checks.{breaks11}
 use Rattle.strings.specs.Strings.{strings_verdict, text_in, end_of, string_at, item, turn_of, turn_string, place_of, turn_in, strings_of}
 

@@ -1,11 +1,9 @@
 -- What a permutation (FORMAT 10.13) answers, and what it leaves in the lent buffer.
-use Rattle.std.specs.Prelude.{Bool, ◌||◌, cond, List, ◌++◌, ℕ, ltb, get_or, drop, length}
+use Rattle.std.specs.Prelude.{Bool, ◌||◌, cond, List, ◌++◌, ℕ, ltb, get_or, drop, length, Ok, Err}
 use Rattle.geometry.specs.Geometry.{brick_bytes}
 use Rattle.subtiles.specs.Subtiles.{plain_from, subtiled_from, breaks20}
 use Rattle.record.specs.Answers.{Done}
 use Rattle.record.specs.declared.Refusal.TheVariants as refusal
-use Rattle.std.specs.Prelude.{Ok}
-use Rattle.std.specs.Prelude.{Err}
 
 -- the bytes of a brick with these sides
 abbrev pub bytes_in : List ℕ → ℕ → ℕ

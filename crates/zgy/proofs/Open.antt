@@ -9,12 +9,10 @@ use native.Mathlib.Omega.{arith}
 use lib.Dec.{leb, ltb}
 use lib.ListN.{length}
 use Rattle.endian.specs.Loops.{first}
-use Rattle.record.specs.Answers.{number_of, refused, number}
+use Rattle.record.specs.Answers.{number_of, refused, number, Verdict, Taken}
 use Rattle.record.specs.declared.Refusal.{Refusal}
 use Rattle.record.specs.Record.{record_of}
 use Rattle.record.specs.declared.Record.{Record}
-use Rattle.record.specs.Answers.{Verdict}
-use Rattle.record.specs.Answers.{Taken}
 use Rattle.checks.specs.Fits.{breaks14_with}
 use Rattle.table.specs.Entries.{breaks12}
 use Rattle.table.proofs.Tables.{inside-passes}
@@ -43,13 +41,9 @@ module _ (f h : List ℕ) (e : open_verdict f ≡ Taken) (K : Kept (record_in f)
   kept_record = same_record f h K.same_length ((opens_exactly f).0 e) K.same_header
 
 -- a check by another number, then later ones
-by_check : (b : Bool) (n : ℕ) (later : Verdict) → n ≢ 12 → number_of later ≢ 12 → number_of (cond b (refused n) later) ≢ 12
-by_check true n later h l = h
-by_check false n later h l = l
-
-by_entry : (b : Bool) (n e : ℕ) (later : Verdict) → n ≢ 12 → number_of later ≢ 12 → number_of (cond b (refused_at n e) later) ≢ 12
-by_entry true n e later h l = h
-by_entry false n e later h l = l
+by_check : (b : Bool) (x : Refusal) (later : Verdict) → number x ≢ 12 → number_of later ≢ 12 → number_of (cond b (refused x) later) ≢ 12
+by_check true x later h l = h
+by_check false x later h l = l
 
 module _ (r : Record) (f : List ℕ) (v : Valid r f) where
   -- no entry is out of range
@@ -60,10 +54,10 @@ module _ (r : Record) (f : List ℕ) (v : Valid r f) where
   unfolding region_verdict
   region_12 g room need later h =
       let last : Verdict = unless_touched r refusal.Range (touches r g) (breaks12 r f) later in
-      by_check (breaks14_with r (length f)) 14 _ (λ q. omega arith)
-      (by_check (leb r.levels g.level) 15 _ (λ q. omega arith)
-      (by_check (not (in_extent r g)) 16 (cond (ltb room need) (refused refusal.Room) last) (λ q. omega arith)
-      (by_check (ltb room need) 18 last (λ q. omega arith)
+      by_check (breaks14_with r (length f)) refusal.Record _ (λ q. omega arith)
+      (by_check (leb r.levels g.level) refusal.Level _ (λ q. omega arith)
+      (by_check (not (in_extent r g)) refusal.Index (cond (ltb room need) (refused refusal.Room) last) (λ q. omega arith)
+      (by_check (ltb room need) refusal.Room last (λ q. omega arith)
       (λ q. h (ap number_of (sym (finds_none refusal.Range (λ e. touches r g e && breaks12 r f e) (entries r) later none)) ∙ q)))))
     where
       none : (e : ℕ) → e < entries r → touches r g e && breaks12 r f e ≡ false
@@ -77,7 +71,7 @@ module _ (r : Record) (f : List ℕ) (v : Valid r f) where
   unfolding raw_verdict float_verdict write_verdict
   in_range (raw_read g b) = region_12 g _ _ Taken (λ q. omega arith)
   in_range (float_read g b) = region_12 g _ _ Taken (λ q. omega arith)
-  in_range (write g d) = region_12 g _ _ _ (by_entry (ltb (lowest g) (entries r)) 19 (lowest g) Taken (λ q. omega arith) (λ q. omega arith))
+  in_range (write g d) = region_12 g _ _ _ (by_check (ltb (lowest g) (entries r)) (refusal.NotStored (lowest g)) Taken (λ q. omega arith) (λ q. omega arith))
     where
       lowest : Region → ℕ
       lowest g = first (λ e. touches r g e && not_stored r f e) (entries r)

@@ -12,16 +12,12 @@ use Rattle.floats.specs.Position.{position_of}
 use Rattle.geometry.specs.Limits.{text_start}
 use Rattle.record.specs.Types.{coding_of, type_verdict}
 use Rattle.record.specs.declared.Coding.TheVariants.{Scaled, Float32}
-use Rattle.record.specs.Answers.{number, entry, and_then, unless_found, verdict_of, answered}
+use Rattle.record.specs.Answers.{number, entry, and_then, unless_found, verdict_of, answered, Done, Verdict, Taken, refused}
 use Rattle.record.specs.Header.{version_of, description_of, text_length_of, text_of}
 use Rattle.record.specs.Record.{size_of, bricks_of, brick_bytes_of, header_of}
 use Rattle.record.specs.declared.Description.{Description}
-use Rattle.record.specs.Answers.{Done}
 use Rattle.record.specs.declared.Record.{Record}
 use Rattle.record.specs.declared.Refusal.{Refusal}
-use Rattle.record.specs.Answers.{Verdict}
-use Rattle.record.specs.Answers.{Taken}
-use Rattle.record.specs.Answers.{refused}
 use Rattle.checks.specs.Checks.{breaks2, breaks3, breaks4, verdict5, breaks6, breaks7, breaks8, breaks9, breaks11, described}
 use Rattle.checks.specs.Fits.{breaks14, breaks14_with}
 use Rattle.table.specs.declared.Kind.{Kind}
@@ -44,8 +40,7 @@ use Rattle.subtiles.specs.Answers.{bytes_in, breaks18, permute_answer, buffer_af
 use Rattle.zgy.specs.Ledger.{Event, CallOn}
 use Rattle.zgy.specs.Refusals.{one_of, may_be, numbers_of, RefusedByNumber, RefusedLeaves, EveryCallRefusesByNumber}
 use Rattle.record.specs.declared.Refusal.TheVariants as refusal
-use Rattle.std.specs.Prelude.{Ok}
-use Rattle.std.specs.Prelude.{Err}
+use Rattle.std.specs.Prelude.{Ok, Err}
 
 -- a check, then the later ones
 by_check : (ks : List ℕ) (b : Bool) (v later : Verdict) → may_be ks v ≡ true → may_be ks later ≡ true → may_be ks (cond b v later) ≡ true

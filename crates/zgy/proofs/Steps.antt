@@ -8,9 +8,7 @@ use mathlib.Core.List.{List, [], ◌∷◌}
 use lib.Ieee.{Float}
 use lib.ListN.{length}
 use Rattle.record.specs.declared.Record.{Record}
-use Rattle.record.specs.Answers.{Verdict}
-use Rattle.record.specs.Answers.{Taken}
-use Rattle.record.specs.Answers.{refused}
+use Rattle.record.specs.Answers.{Verdict, Taken, refused}
 use Rattle.cube.specs.declared.Region.{Region}
 use Rattle.cube.specs.Places.{Place, bytes, item_bytes, rows_of, raw_of, reading_of, Extent}
 use Rattle.cube.specs.Regions.{has, index, chunk, written, over}
@@ -22,8 +20,7 @@ use Rattle.cube.proofs.Rows.{AtAll, raw_same, float_same, valid_width}
 use Rattle.cube.proofs.Writes.{Kept, kept_refl, kept_valid, written-kept, written-rows}
 use Rattle.cube.proofs.Calls.{refused-answer, refused-cube, refused-buffers, taken-answer, taken-write, taken-raw, taken_float, raw-cube, float_cube, write-buffers}
 use Rattle.zgy.specs.Ledger.{Event, taken, CallOn, Ledger, into, leaves, feed, gives, promised}
-use Rattle.std.specs.Prelude.{Ok}
-use Rattle.std.specs.Prelude.{Err}
+use Rattle.std.specs.Prelude.{Ok, Err}
 
 module _ (r : Record) where
   -- the ledger agrees with the cube: each sample reads as its row does

@@ -1,5 +1,8 @@
 -- Demand 3 speaks of something: a cube that opens, with a stored, a constant and missing bricks, and calls on it, all computed.
 -- Assumes nothing.
+use Rattle.std.specs.Prelude.{Ok, Err}
+use Rattle.record.specs.Answers.{Taken}
+use Rattle.record.specs.declared.Refusal.TheVariants as refusal
 use Prim.Native.Nat.{ℕ, suc, zero}
 use mathlib.Core.Path.{◌≡◌, refl}
 use mathlib.Core.Bool.{Bool, true, ◌&&◌}
@@ -97,7 +100,7 @@ made_calls r [] f = tt
 made_calls r (c ∷ cs) f = (record { answer-is = refl; cube-is = refl; buffers_are = refl }, made_calls r cs (cube_after r f c))
 
 -- the second write is refused 19 for entry 4 and leaves the first one's bytes; int8 -128 to 127 are scaled to -1280 to 1270; a missing brick reads as 0; two items of each buffer stay
-computed : (map (λ (e : Event). e.answer) (made (record_in cube) cube calls) ≡ Taken 2 ∷ refused (record { number = 19; entry = 4 }) ∷ Taken 12 ∷ Taken 12 ∷ [])
+computed : (map (λ (e : Event). e.answer) (made (record_in cube) cube calls) ≡ Ok 2 ∷ Err (refusal.NotStored 4) ∷ Ok 12 ∷ Ok 12 ∷ [])
     × (map (λ (e : Event). e.buffers) (made (record_in cube) cube calls)
     ≡ (raw (7 ∷ 9 ∷ []) ∷ [])
     ∷ (raw (1 ∷ 2 ∷ 3 ∷ 4 ∷ []) ∷ [])

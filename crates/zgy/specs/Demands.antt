@@ -1,10 +1,9 @@
 -- Demand 3 (FORMAT 12.3) as one statement about a whole list of calls; and, apart from it, what the base's calls keep of the file.
 use Rattle.std.specs.Prelude.{List, map, ◌≢◌, ◌⊎◌, ◌≡◌, ℕ, ◌+◌, ◌≤◌, ◌<◌, length, take}
 use Rattle.endian.specs.Bytes.{Bytes}
-use Rattle.record.specs.Answers.{number_of}
+use Rattle.record.specs.Answers.{number_of, Taken}
 use Rattle.record.specs.Record.{bricks_of, header_of}
 use Rattle.record.specs.declared.Record.{Record}
-use Rattle.record.specs.Answers.{Taken}
 use Rattle.table.specs.declared.Kind.TheVariants.{Stored}
 use Rattle.opening.specs.Opening.{open_verdict, record_in}
 use Rattle.cube.specs.declared.Region.{Region}

@@ -1,13 +1,11 @@
 -- Lists of calls on an opened cube, and the ledger of demand 3 (FORMAT 12.4). r is the record that opening gave, f the cube's bytes.
-use Rattle.std.specs.Prelude.{Bool, true, false, cond, List, [], ◌∷◌, ◌≡◌, ℕ}
+use Rattle.std.specs.Prelude.{Bool, true, false, cond, List, [], ◌∷◌, ◌≡◌, ℕ, Ok, Err}
 use Rattle.std.proofs.Math.Option.{Option, none, some}
 use Rattle.record.specs.declared.Record.{Record}
 use Rattle.record.specs.Answers.{Done}
 use Rattle.cube.specs.Places.{Place, Row, bytes, item_bytes, rows_of}
 use Rattle.cube.specs.Regions.{has, index, chunk, raw_rows, float_rows, over}
 use Rattle.cube.specs.Calls.{Call, raw_read, float_read, write, Buffer, raw, floats, lent, answer_of, cube_after, buffers_after}
-use Rattle.std.specs.Prelude.{Ok}
-use Rattle.std.specs.Prelude.{Err}
 
 -- a call that was made: its arguments, its answer, and the cube and the lent buffers after it
 pub record Event : Type 0 where

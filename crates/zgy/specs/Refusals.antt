@@ -1,13 +1,10 @@
 -- Demand 1 (FORMAT 12.1): every refusal has a number of the table that its call may give, its second number is 0 but for 12, 13 and 19, and a refused call
 -- leaves the cube and all lent buffers. That every call takes every input and ends is what the language itself proves of it.
-use Rattle.std.specs.Prelude.{Bool, true, false, ◌&&◌, ◌||◌, List, [], ◌∷◌, ◌≡◌, ℕ, eqb, length}
-use Rattle.record.specs.Answers.{verdict_of, number, entry}
+use Rattle.std.specs.Prelude.{Bool, true, false, ◌&&◌, ◌||◌, List, [], ◌∷◌, ◌≡◌, ℕ, eqb, length, Ok, Err}
+use Rattle.record.specs.Answers.{verdict_of, number, entry, Verdict, Taken, refused}
 use Rattle.record.specs.declared.Description.{Description}
 use Rattle.record.specs.declared.Record.{Record}
 use Rattle.record.specs.declared.Refusal.{Refusal}
-use Rattle.record.specs.Answers.{Verdict}
-use Rattle.record.specs.Answers.{Taken}
-use Rattle.record.specs.Answers.{refused}
 use Rattle.opening.specs.Opening.{opened_of}
 use Rattle.cube.specs.Calls.{Call, raw_read, float_read, write, lent, answer_of}
 use Rattle.bricks.specs.Bricks.{kind_answer, view_verdict}
@@ -17,8 +14,6 @@ use Rattle.making.specs.Making.{make_answer, make_buffer}
 use Rattle.making.specs.declared.Fill.{Fill}
 use Rattle.subtiles.specs.Answers.{permute_answer, buffer_after}
 use Rattle.zgy.specs.Ledger.{Event, CallOn}
-use Rattle.std.specs.Prelude.{Ok}
-use Rattle.std.specs.Prelude.{Err}
 
 -- n is one of the numbers
 abbrev pub one_of : ℕ → List ℕ → Bool

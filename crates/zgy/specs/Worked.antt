@@ -4,21 +4,19 @@ use Rattle.std.specs.Float.{binary64}
 use Rattle.std.specs.Float.Ieee.{of_int}
 use Rattle.endian.specs.Bytes.{lows}
 use Rattle.geometry.specs.Geometry.{bricks_in, alphas_in, item_of}
-use Rattle.record.specs.Answers.{refused}
+use Rattle.record.specs.Answers.{refused, Taken}
 use Rattle.record.specs.declared.Refusal.TheVariants as refusal
 use Rattle.record.specs.Types.{value_of}
 use Rattle.record.specs.Header.{id_at}
 use Rattle.record.specs.Record.{side_of, extent_along, levels_of, bricks_of, alphas_of, brick_bytes_of, header_of, record_of}
 use Rattle.record.specs.declared.Description.{Description}
 use Rattle.record.specs.declared.Record.{Record}
-use Rattle.record.specs.Answers.{Taken}
 use Rattle.table.specs.Entries.{kind_of}
 use Rattle.table.specs.declared.Kind.TheVariants.{Constant}
 use Rattle.opening.specs.Opening.{open_verdict}
 use Rattle.cube.specs.Places.{Place, entry_in, brick_of, item_no, byte_of}
 use Rattle.subtiles.specs.Subtiles.{subtiled_of}
 use Rattle.making.specs.Making.{stored_id}
-use Rattle.record.specs.declared.Refusal.TheVariants as refusal
 
 -- a description with these sizes, this side in each direction and this type, all else zero
 abbrev pub cube_of : ℕ → ℕ → ℕ → ℕ → ℕ → Description

@@ -12,7 +12,7 @@ ghost use Rattle.zgy.specs.Worked.{WorkedNumbers};
 
 use cube::Region;
 use reading::read_raw;
-use record::{Done, Record};
+use record::{Record, Refusal};
 use sampling::read_float;
 use writing::write;
 
@@ -46,21 +46,21 @@ pub fn worked_numbers()
 {}
 
 // A raw read is an event of demand 3.
-pub fn raw_read_event(out: &mut [u8], file: &[u8], r: Record, g: Region) -> Done
+pub fn raw_read_event(out: &mut [u8], file: &[u8], r: Record, g: Region) -> Result<u64, Refusal>
     ensures { CallOn r file.now (record { call = raw_read g out.old; answer = result; cube = file.now; buffers = raw out.new ∷ [] }) }
 {
     read_raw(out, file, r, g)
 }
 
 // A float read is one.
-pub fn float_read_event(out: &mut [f64], file: &[u8], r: Record, g: Region) -> Done
+pub fn float_read_event(out: &mut [f64], file: &[u8], r: Record, g: Region) -> Result<u64, Refusal>
     ensures { CallOn r file.now (record { call = float_read g out.old; answer = result; cube = file.now; buffers = floats out.new ∷ [] }) }
 {
     read_float(out, file, r, g)
 }
 
 // A write is one.
-pub fn write_event(file: &mut [u8], input: &[u8], r: Record, g: Region) -> Done
+pub fn write_event(file: &mut [u8], input: &[u8], r: Record, g: Region) -> Result<u64, Refusal>
     ensures { CallOn r file.old (record { call = Call.write g input.now; answer = result; cube = file.new; buffers = raw input.now ∷ [] }) }
 {
     write(file, input, r, g)

@@ -4,15 +4,13 @@ use mathlib.Core.Path.{◌≡◌, sym, ap}
 use Prim.Native.Nat.{ℕ}
 use Rattle.record.specs.declared.Record.{Record}
 use Rattle.record.specs.declared.Refusal.{Refusal}
-use Rattle.record.specs.Answers.{Taken}
-use Rattle.record.specs.Answers.{refused}
+use Rattle.record.specs.Answers.{Taken, refused, number, entry}
 use Rattle.table.specs.Entries.{table_in, kind_in}
 use Rattle.table.specs.declared.Kind.{Kind}
 use Rattle.table.specs.declared.Table.{Table}
 use Rattle.bricks.specs.Bricks.{view_verdict, view_of, shown_of}
 use Rattle.zgy_c.specs.Boundary.{part_c, view_c}
 use Rattle.zgy_c.specs.declared.ZgyView.{ZgyView}
-use Rattle.record.specs.Answers.{number}
 
 pub part_by : (k k' : Kind) (n : ℕ) → k ≡ k' → part_c (shown_of k' n) ≡ part_c (shown_of k n)
 part_by k k' n p = ap (λ (x : Kind). part_c (shown_of x n)) (sym p)
@@ -21,7 +19,7 @@ module _ (r : Record) (f filler : List ℕ) (e : ℕ) where
   abbrev answer : ZgyView
   answer = view_c r f filler e
 
-  pub view_refused : (x : Refusal) → view_verdict r f filler e ≡ refused x → record { number = (number x); entry = (entry x); source = 0; offset = 0; length = 0 } ≡ answer
+  pub view_refused : (x : Refusal) → view_verdict r f filler e ≡ refused x → record { number = number x; entry = entry x; source = 0; offset = 0; length = 0 } ≡ answer
   view_refused x v = rw v
 
   pub view_taken : (t : Table) (k : Kind) → view_verdict r f filler e ≡ Taken → t ≡ table_in r → k ≡ kind_in r f e → part_c (shown_of k t.brick) ≡ answer

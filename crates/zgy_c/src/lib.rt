@@ -4,7 +4,7 @@
 
 ghost use Rattle.std.specs.Prelude.{[], ◌∷◌, ◌≡◌, length, get_or};
 ghost use Rattle.endian.specs.Bytes.{peek};
-ghost use Rattle.record.specs.Answers.{number_of, second_of};
+ghost use Rattle.record.specs.Answers.{number, entry};
 ghost use Rattle.opening.specs.Opening.{opened_of};
 ghost use Rattle.bricks.specs.Bricks.{kind_answer, shown_of};
 ghost use Rattle.cube.specs.Calls.{Call, raw_read, float_read, raw, floats, answer_of, cube_after, buffers_after};
@@ -14,16 +14,16 @@ ghost use Rattle.making.specs.Making.{make_answer, make_buffer};
 ghost use Rattle.subtiles.specs.Answers.{permute_answer, plain_buffer, subtiled_buffer};
 ghost use Rattle.zgy_c.specs.Boundary.{done_c, fill_c, position_c, brick_c, kind_c, opened_c, part_c, view_c, string_c};
 
-use bricks::{Brick, Found, brick_kind, brick_view_verdict};
+use bricks::{Brick, brick_kind, brick_view_verdict};
 use cube::Region;
 use geometry::TEXT_START;
 use making::{Fill, make};
-use opening::{Opened, open};
-use positions::{Located, position};
+use opening::open;
+use positions::position;
 use reading::read_raw;
-use record::{Description, Done, Record, Refusal, Verdict};
+use record::{Description, Record, Refusal, no_record};
 use sampling::read_float;
-use strings::{Turn, turn_of};
+use strings::turn_of;
 use subtiles::{to_plain, to_subtiled};
 use table::{Kind, kind_at, table_in};
 use writing::write;
@@ -88,20 +88,77 @@ pub struct ZgyString {
     pub length: u64,
 }
 
-fn done(answer: Done) -> ZgyDone
-    ensures { result ≡ done_c answer }
-{
-    match answer {
-        Done::Taken(count) => ZgyDone {
-            number: 0,
-            entry: 0,
-            count,
-        },
-        Done::Refused(x) => ZgyDone {
-            number: x.number,
-            entry: x.entry,
-            count: 0,
-        },
+impl From<Result<u64, Refusal>> for ZgyDone {
+    ghost from_gives = { λ answer given. given ≡ done_c answer };
+
+    fn from(answer: Result<u64, Refusal>) -> ZgyDone {
+        match answer {
+            Ok(count) => ZgyDone {
+                number: 0,
+                entry: 0,
+                count,
+            },
+            Err(x) => ZgyDone {
+                number: x.number(),
+                entry: x.entry(),
+                count: 0,
+            },
+        }
+    }
+}
+
+impl From<Result<f64, Refusal>> for ZgyPosition {
+    ghost from_gives = { λ answer given. given ≡ position_c answer };
+
+    fn from(answer: Result<f64, Refusal>) -> ZgyPosition {
+        match answer {
+            Ok(value) => ZgyPosition {
+                number: 0,
+                entry: 0,
+                value,
+            },
+            Err(x) => ZgyPosition {
+                number: x.number(),
+                entry: x.entry(),
+                value: 0.0,
+            },
+        }
+    }
+}
+
+impl From<Result<Brick, Refusal>> for ZgyKind {
+    ghost from_gives = { λ answer given. given ≡ kind_c answer };
+
+    fn from(answer: Result<Brick, Refusal>) -> ZgyKind {
+        match answer {
+            Ok(brick) => known(brick),
+            Err(x) => ZgyKind {
+                number: x.number(),
+                entry: x.entry(),
+                kind: 0,
+                value: 0.0,
+                offset: 0,
+            },
+        }
+    }
+}
+
+impl From<Result<Record, Refusal>> for ZgyOpened {
+    ghost from_gives = { λ answer given. given ≡ opened_c answer };
+
+    fn from(answer: Result<Record, Refusal>) -> ZgyOpened {
+        match answer {
+            Ok(cube) => ZgyOpened {
+                number: 0,
+                entry: 0,
+                cube,
+            },
+            Err(refusal) => ZgyOpened {
+                number: refusal.number(),
+                entry: refusal.entry(),
+                cube: no_record(),
+            },
+        }
     }
 }
 
@@ -112,23 +169,6 @@ fn fill_of(fill: u32) -> Fill
         Fill::Constant
     } else {
         Fill::Stored
-    }
-}
-
-fn located(answer: Located) -> ZgyPosition
-    ensures { result ≡ position_c answer }
-{
-    match answer {
-        Located::At(value) => ZgyPosition {
-            number: 0,
-            entry: 0,
-            value,
-        },
-        Located::Refused(x) => ZgyPosition {
-            number: x.number,
-            entry: x.entry,
-            value: 0.0,
-        },
     }
 }
 
@@ -156,21 +196,6 @@ fn known(brick: Brick) -> ZgyKind
             kind: 2,
             value: 0.0,
             offset,
-        },
-    }
-}
-
-fn found(answer: Found) -> ZgyKind
-    ensures { result ≡ kind_c answer }
-{
-    match answer {
-        Found::Known(brick) => known(brick),
-        Found::Refused(x) => ZgyKind {
-            number: x.number,
-            entry: x.entry,
-            kind: 0,
-            value: 0.0,
-            offset: 0,
         },
     }
 }
@@ -205,11 +230,11 @@ fn part(kind: Kind, length: u64) -> ZgyView
 }
 
 fn nowhere(x: Refusal) -> ZgyView
-    ensures { result ≡ record { number = x.number; entry = x.entry; source = 0; offset = 0; length = 0 } }
+    ensures { result ≡ record { number = number x; entry = entry x; source = 0; offset = 0; length = 0 } }
 {
     ZgyView {
-        number: x.number,
-        entry: x.entry,
+        number: x.number(),
+        entry: x.entry(),
         source: 0,
         offset: 0,
         length: 0,
@@ -228,38 +253,12 @@ fn no_string(number: u32, entry: u32) -> ZgyString
     }
 }
 
-// The two numbers of a verdict.
-fn numbers(verdict: Verdict) -> Refusal
-    ensures { (result.number ≡ number_of verdict) × (result.entry ≡ second_of verdict) }
-{
-    match verdict {
-        Verdict::Taken => Refusal {
-            number: 0,
-            entry: 0,
-        },
-        Verdict::Refused(x) => x,
-    }
-}
-
-fn opened(answer: Opened) -> ZgyOpened
-    ensures { result ≡ opened_c answer }
-{
-    let verdict = answer.verdict;
-    let refusal = numbers(verdict);
-    let cube = answer.cube;
-    ZgyOpened {
-        number: refusal.number,
-        entry: refusal.entry,
-        cube,
-    }
-}
-
 // Opens a cube.
 #[unsafe(no_mangle)]
 pub extern "C" fn zgy_open(file: &[u8]) -> ZgyOpened
     ensures { result ≡ opened_c (opened_of file.now) }
 {
-    opened(open(file))
+    open(file).into()
 }
 
 // What the brick of an entry is.
@@ -267,7 +266,7 @@ pub extern "C" fn zgy_open(file: &[u8]) -> ZgyOpened
 pub extern "C" fn zgy_brick_kind(file: &[u8], r: Record, entry: u32) -> ZgyKind
     ensures { result ≡ kind_c (kind_answer r file.now entry) }
 {
-    found(brick_kind(file, r, entry))
+    brick_kind(file, r, entry).into()
 }
 
 // Where the bytes of an entry's brick stand, in the file or in the filler.
@@ -275,13 +274,12 @@ pub extern "C" fn zgy_brick_kind(file: &[u8], r: Record, entry: u32) -> ZgyKind
 pub extern "C" fn zgy_brick_view(file: &[u8], filler: &[u8], r: Record, entry: u32) -> ZgyView
     ensures { result ≡ view_c r file.now filler.now entry }
 {
-    let verdict = brick_view_verdict(file, filler, r, entry);
-    match verdict {
-        Verdict::Refused(x) => nowhere(x),
-        Verdict::Taken => {
+    match brick_view_verdict(file, filler, r, entry) {
+        Ok(()) => {
             let t = table_in(r);
             part(kind_at(file, t, entry as usize), t.brick)
         }
+        Err(x) => nowhere(x),
     }
 }
 
@@ -291,7 +289,7 @@ pub extern "C" fn zgy_read_raw(out: &mut [u8], file: &[u8], r: Record, g: Region
     ensures answer { result ≡ done_c (answer_of r file.now (raw_read g out.old)) }
     ensures buffer { raw out.new ∷ [] ≡ buffers_after r file.now (raw_read g out.old) }
 {
-    done(read_raw(out, file, r, g))
+    read_raw(out, file, r, g).into()
 }
 
 // Reads the samples of a region as floats.
@@ -300,7 +298,7 @@ pub extern "C" fn zgy_read_float(out: &mut [f64], file: &[u8], r: Record, g: Reg
     ensures answer { result ≡ done_c (answer_of r file.now (float_read g out.old)) }
     ensures buffer { floats out.new ∷ [] ≡ buffers_after r file.now (float_read g out.old) }
 {
-    done(read_float(out, file, r, g))
+    read_float(out, file, r, g).into()
 }
 
 // Writes the bytes of a region into stored bricks.
@@ -309,7 +307,7 @@ pub extern "C" fn zgy_write(file: &mut [u8], input: &[u8], r: Record, g: Region)
     ensures answer { result ≡ done_c (answer_of r file.old (Call.write g input.now)) }
     ensures cube { file.new ≡ cube_after r file.old (Call.write g input.now) }
 {
-    done(write(file, input, r, g))
+    write(file, input, r, g).into()
 }
 
 // Where an index stands along a dimension.
@@ -317,7 +315,7 @@ pub extern "C" fn zgy_write(file: &mut [u8], input: &[u8], r: Record, g: Region)
 pub extern "C" fn zgy_position(r: Record, dimension: u32, index: u32) -> ZgyPosition
     ensures { result ≡ position_c (position_answer r dimension index) }
 {
-    located(position(r, dimension, index))
+    position(r, dimension, index).into()
 }
 
 // Where the n-th string of a cube stands in the file, from 0 on.
@@ -326,21 +324,16 @@ pub extern "C" fn zgy_string(file: &[u8], r: Record, n: u32) -> ZgyString
     ensures answer { result ≡ string_c (turn_in r file.now n) }
     ensures shown { peek file.now result.offset result.length ≡ get_or (strings_of (text_in r file.now)) n [] }
 {
-    let turn = turn_of(file, r, n);
-    match turn {
-        Turn::Item {
-            start,
-            end,
-            next: _,
-        } => ZgyString {
+    match turn_of(file, r, n) {
+        Ok(Some(item)) => ZgyString {
             number: 0,
             entry: 0,
             found: 1,
-            offset: (TEXT_START + start) as u64,
-            length: (end - start) as u64,
+            offset: (TEXT_START + item.start) as u64,
+            length: (item.end - item.start) as u64,
         },
-        Turn::Done => no_string(0, 0),
-        Turn::Refused(x) => no_string(x.number, x.entry),
+        Ok(None) => no_string(0, 0),
+        Err(x) => no_string(x.number(), x.entry()),
     }
 }
 
@@ -350,7 +343,7 @@ pub extern "C" fn zgy_make(out: &mut [u8], d: Description, text: &[u8], fill: u3
     ensures answer { result ≡ done_c (make_answer d text.now (fill_c fill) (length out.old)) }
     ensures buffer { out.new ≡ make_buffer d text.now (fill_c fill) out.old }
 {
-    done(make(out, d, text, fill_of(fill)))
+    make(out, d, text, fill_of(fill)).into()
 }
 
 // A version 1 brick to plain order.
@@ -366,7 +359,7 @@ pub extern "C" fn zgy_to_plain(
     ensures answer { result ≡ done_c (permute_answer (side0 ∷ side1 ∷ side2 ∷ []) width (length brick.now) (length out.old)) }
     ensures buffer { out.new ≡ plain_buffer (side0 ∷ side1 ∷ side2 ∷ []) width brick.now out.old }
 {
-    done(to_plain(out, brick, [side0, side1, side2], width))
+    to_plain(out, brick, [side0, side1, side2], width).into()
 }
 
 // A brick in plain order to the version 1 order.
@@ -382,5 +375,5 @@ pub extern "C" fn zgy_to_subtiled(
     ensures answer { result ≡ done_c (permute_answer (side0 ∷ side1 ∷ side2 ∷ []) width (length brick.now) (length out.old)) }
     ensures buffer { out.new ≡ subtiled_buffer (side0 ∷ side1 ∷ side2 ∷ []) width brick.now out.old }
 {
-    done(to_subtiled(out, brick, [side0, side1, side2], width))
+    to_subtiled(out, brick, [side0, side1, side2], width).into()
 }

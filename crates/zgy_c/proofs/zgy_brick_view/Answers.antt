@@ -9,17 +9,17 @@ use Rattle.zgy_c.proofs.zgy_brick_view.Goals as goal
 
 pub table_in-t-requires : goal.table_in-t-requires
 table_in-t-requires c =
-    let taken : view_verdict c.args.r c.args.file.now c.args.filler.now c.args.entry ≡ Taken = sym c.brick_view_verdict-verdict.ensures ∙ c.in-Ok.is in
+    let taken : view_verdict c.args.r c.args.file.now c.args.filler.now c.args.entry ≡ Taken = sym c.brick_view_verdict.ensures ∙ c.in-Ok.is in
     let entry_seen : Seen c.args.r c.args.file.now c.args.entry = seen _ _ _ (view_parts _ _ _ _ taken).0 in
     seen_derived _ _ _ entry_seen
 
 pub kind_at-requires : goal.kind_at-requires
 kind_at-requires c =
-    let taken : view_verdict c.args.r c.args.file.now c.args.filler.now c.args.entry ≡ Taken = sym c.brick_view_verdict-verdict.ensures ∙ c.in-Ok.is in
+    let taken : view_verdict c.args.r c.args.file.now c.args.filler.now c.args.entry ≡ Taken = sym c.brick_view_verdict.ensures ∙ c.in-Ok.is in
     let entry_seen : Seen c.args.r c.args.file.now c.args.entry = seen _ _ _ (view_parts _ _ _ _ taken).0 in
     seen_in _ _ _ entry_seen _ c.table_in-t.ensures
 
 pub returns-in-Ok : goal.returns-in-Ok
 returns-in-Ok c =
-    let taken : view_verdict c.args.r c.args.file.now c.args.filler.now c.args.entry ≡ Taken = sym c.brick_view_verdict-verdict.ensures ∙ c.in-Ok.is in
+    let taken : view_verdict c.args.r c.args.file.now c.args.filler.now c.args.entry ≡ Taken = sym c.brick_view_verdict.ensures ∙ c.in-Ok.is in
     c.part.ensures ∙ view_taken _ _ _ _ _ _ taken c.table_in-t.ensures (c.kind_at.ensures ∙ kind_is _ _ c.table_in-t.ensures _ _)
