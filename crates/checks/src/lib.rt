@@ -21,7 +21,7 @@ pub fn check2(file: &[u8]) -> bool
     requires { 4 ≤ length file.now }
     ensures { result ≡ breaks2 file.now }
 {
-    !((file[0] == 86) & (file[1] == 66) & (file[2] == 83) & (file[3] == 0))
+    !file.starts_with(b"VBS\0")
 }
 
 #[tactic(auto, unfolding(crate::specs::Checks::breaks3))]
