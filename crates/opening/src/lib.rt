@@ -11,21 +11,18 @@ use checks::{check_description, check2, check3, check11};
 use endian::u32_at;
 use geometry::TEXT_START;
 use record::{Record, Refusal, description_at, record_of};
-use table::{lowest_out_of_range, lowest_overlap, table_in};
+use table::Entries;
 
 // Checks 12 and 13, over all entries of the brick table.
 fn check_entries(file: &[u8], r: Record) -> Result<(), Refusal>
     requires { Derived r × (header_of r.description r.text ≤ length file.now) }
     ensures { result ≡ entries_verdict r file.now }
 {
-    let t = table_in(r);
-    let count = t.count;
-    let outside = lowest_out_of_range(file, t);
-    if outside < count {
+    let entries = Entries::of(file, r);
+    if let Some(outside) = entries.lowest_out_of_range() {
         return Err(Refusal::Range(outside as u32));
     }
-    let overlapping = lowest_overlap(file, t);
-    if overlapping < count {
+    if let Some(overlapping) = entries.lowest_overlap() {
         return Err(Refusal::Overlap(overlapping as u32));
     }
     Ok(())

@@ -1,24 +1,30 @@
 -- The cells of a window, and the windows one after the other. Assumes nothing.
+use Rattle.std.specs.Bool.{⊤}
+use Rattle.std.specs.Option.{MatchOption, unwrap_or, option_or}
+use Rattle.std.specs.Bool.{MatchBool, then_some}
+use Rattle.std.specs.List.{AllWithin, HoldsAt}
+use Rattle.std.proofs.lemmas.List.{get_or-take, get_or-drop, length-take, length-drop}
+use Rattle.endian.proofs.Search.{clash}
+use Rattle.std.proofs.Common.{Option, Some, None}
 use mathlib.Core.Path.{◌≡◌, refl, sym, ap, ◌∙◌}
 use mathlib.Core.Logic.{◌⊎◌, inl, inr, ⊎_elim}
 use mathlib.Core.Bool.{Bool, true, false}
 use mathlib.Core.List.{List}
-use Prim.Native.Nat.{ℕ, zero, suc, ◌+◌, ◌-◌, ◌*◌, ◌/◌, ◌^◌, ◌≤◌, ◌<◌}
-use native.Mathlib.Nat.{eq-or-lt_of_le, lt_of_lt_of_le, div-lt_iff_lt-mul, lt-div-mul-add, div-mul-le_self, add-mul}
+use Prim.Native.Nat.{ℕ, zero, suc, ◌+◌, ◌-◌, ◌*◌, ◌/◌, ◌≤◌, ◌<◌, min, ◌^◌}
+use native.Mathlib.Nat.{le_refl, lt_of_lt_of_le, lt_of_not-le, div-lt_iff_lt-mul, lt-div-mul-add, div-mul-le_self, add-mul}
 use native.Mathlib.Decide.{ℕ_discrete, dec_le}
 use native.Mathlib.Omega.{arith}
 use lib.Dec.{ltb}
-use lib.ListN.{length, get_or, set, replicate, length-set, length-replicate}
+use lib.ListN.{length, get_or, take, drop, set, replicate, length-set, length-replicate}
 use lib.Seq.{get_or-set_same, get_or-set_other}
 use borrow.Author.Tests.{ltb-true, ltb-false}
 use borrow.Author.Count.{below_more}
-use Rattle.endian.specs.Loops.{first}
-use Rattle.endian.proofs.Search.{clash, first_before}
 use Rattle.table.specs.declared.Table.{Table}
-use Rattle.table.specs.Entries.{outside_at}
+use Rattle.table.specs.Entries.{outside_at, lowest}
+use Rattle.table.proofs.Search.{lowest_none}
 use Rattle.table.proofs.Words.{at_stored, offset_stored}
 use Rattle.table.proofs.Range.{at_fits}
-use Rattle.table.specs.Windows.{offset_at, Near, Inside, Scanned, Touched, Decides, NextStart}
+use Rattle.table.specs.Windows.{offset_at, Near, Inside, Scanned, Touched, NextStart}
 
 -- offsets less than b apart fall in one cell or in neighbours
 slot_step : (b x y : ℕ) → 0 < b → x < y + b → x / b ≤ y / b + 1
@@ -99,54 +105,67 @@ module _ (os : ℕ → ℕ) (b lo : ℕ) where
           real = λ s h. elim (ℕ_discrete s (c + 1)) [ yes e ↦ new s e | no e ↦ old s e h ];
         }
 
-pub says_no : {P : Type 0} → (P → ⊥) → Decides P false
-says_no h = record { holds = λ e. clash false e refl; fails = λ e. h }
+-- what a search of the three cells says
+pub touched : (cells : List ℕ) (c b o : ℕ) (r : Bool) → c < 16382 → length cells ≡ 16384 → let three = take (c + 3 - c) (drop c cells) in
+    MatchBool r ((k : ℕ) × (k < length three) × HoldsAt (λ v. Near b v o) three k) (AllWithin (λ v. Near b v o → ⊥) three 0 (length three)) → Touched cells c b o r
+touched cells c b o r low size = by r
+  where
+    three : List ℕ
+    three = take (c + 3 - c) (drop c cells)
 
-pub says_less : {P : Type 0} (x y : ℕ) → (x < y → P) → (P → x < y) → Decides P (ltb x y)
-says_less x y f g = record { holds = λ e. f (ltb-true x y e); fails = λ e p. omega (arith, ltb-false x y e, g p) }
+    long : length three ≡ 3
+    long = simp (length-take, length-drop) (omega arith)
 
-three : (P : ℕ → Type 0) (c s : ℕ) → (P c → ⊥) → (P (c + 1) → ⊥) → (P (c + 2) → ⊥) → c ≤ s → s ≤ c + 2 → P s → ⊥
-three P c s h0 h1 h2 lo hi p =
-    ⊎_elim
-    (λ (e : c ≡ s). h0 (rw e p))
-    (λ (g : c < s). elim (ℕ_discrete s (c + 1)) [ yes e ↦ h1 (rw (← e) p) | no e ↦ (let q : s ≡ c + 2 = omega arith in h2 (rw (← q) p)) ])
-    (eq-or-lt_of_le lo)
+    at : (k : ℕ) → k < 3 → get_or three k 0 ≡ get_or cells (c + k) 0
+    at k g = get_or-take (c + 3 - c) (drop c cells) k 0 (omega arith) ∙ get_or-drop c cells k 0
 
-module _ (cells : List ℕ) (c b o : ℕ) where
-  pub touched : (s : ℕ) → Near b (get_or cells s 0) o → Touched cells c b o true
-  touched s n = record { found = λ e. (s, n); none = λ e. clash true refl e }
-
-  pub untouched : (r : Bool) → (Near b (get_or cells c 0) o → ⊥) → (Near b (get_or cells (c + 1) 0) o → ⊥) → Decides (Near b (get_or cells (c + 2) 0) o) r → Touched cells c b o r
-  untouched r h0 h1 d =
-      record { found = λ e. (c + 2, d.holds e); none = λ e s. three (λ k. Near b (get_or cells k 0) o) c s h0 h1 (d.fails e) }
+    by : (r : Bool) → MatchBool r ((k : ℕ) × (k < length three) × HoldsAt (λ v. Near b v o) three k) (AllWithin (λ v. Near b v o → ⊥) three 0 (length three))
+        → Touched cells c b o r
+    by true h = record { found = λ e. (c + h.0, rw (← at h.0 (omega (arith, h.1, long))) (h.2 0)); none = λ e. clash true refl e }
+    by false h =
+        record {
+          found = λ e. clash false e refl;
+          none = λ e s l g n. let q : c + (s - c) ≡ s = omega arith in h (s - c) 0 (omega arith) (omega (arith, long)) (rw (at (s - c) (omega arith), q) n);
+        }
 
 -- of the first n entries, those that overlap a lower one lie at lo or after it, both of them
 abbrev pub Left : (ℕ → ℕ) → ℕ → ℕ → ℕ → Type 0
 Left os b lo n = (i j : ℕ) → i < n → j < i → Near b (os j) (os i) → (lo ≤ os i) × (lo ≤ os j)
 
--- entry r, where it is below n, overlaps a lower one
-abbrev pub Hit : (ℕ → ℕ) → ℕ → ℕ → ℕ → Type 0
-Hit os b n r = r < n → (j : ℕ) × (j < r) × Near b (os j) (os r)
+-- the entry that was found, where one was, is one of the first n and overlaps a lower one
+abbrev pub Hit : (ℕ → ℕ) → ℕ → ℕ → Option ℕ → Type 0
+Hit os b n r = MatchOption r ⊤ (λ e. (e < n) × (j : ℕ) × (j < e) × Near b (os j) (os e))
 
--- what check 12 leaves: a stored offset is from `from` to below `end`
-abbrev pub Placed : (ℕ → ℕ) → ℕ → ℕ → ℕ → Type 0
-Placed os n from end = (k : ℕ) → k < n → 0 < os k → (from ≤ os k) × (os k < end)
+-- what check 12 leaves: a stored offset is at `from` or after it
+abbrev pub Placed : (ℕ → ℕ) → ℕ → ℕ → Type 0
+Placed os n from = (k : ℕ) → k < n → 0 < os k → from ≤ os k
 
-pub placed : (t : Table) (f : List ℕ) → first (outside_at t f) t.count ≡ t.count → Placed (offset_at t f) t.count t.header (2 ^ 63)
+pub placed : (t : Table) (f : List ℕ) → lowest (outside_at t f) t.count ≡ None → Placed (offset_at t f) t.count t.header
 placed t f none k g s =
-    let q = offset_stored t f k s in
-    ((at_fits t f k (first_before (outside_at t f) t.count k (rw none g)) (offset_at t f k) q).0, (at_stored t f k (offset_at t f k) q).2)
+    (at_fits t f k (lowest_none (outside_at t f) t.count none k g) (offset_at t f k) (offset_stored t f k s)).0
+
+pub hit_le : (os : ℕ → ℕ) (b n : ℕ) (r : Option ℕ) → Hit os b n r → unwrap_or r n ≤ n
+hit_le os b n None h = le_refl n
+hit_le os b n (Some e) h = omega (arith, h.0)
+
+-- of what a search found and what was found before
+pub or_limit : (n : ℕ) (r best : Option ℕ) → unwrap_or (option_or r best) n ≡ unwrap_or r (unwrap_or best n)
+or_limit n None best = refl
+or_limit n (Some e) best = refl
 
 module _ (os : ℕ → ℕ) (n b : ℕ) where
-  pub left_start : (from end : ℕ) → Placed os n from end → Left os b from n
-  left_start from end p i j g k m = ((p i g m.right).0, (p j (omega arith) m.left).0)
+  pub left_start : (from : ℕ) → Placed os n from → Left os b from n
+  left_start from p i j g k m = (p i g m.right, p j (omega arith) m.left)
 
-  pub left-more : (lo limit r : ℕ) → Left os b lo limit → Scanned os b lo limit r → Left os b (lo + 16381 * b) r
+  pub left_less : (lo less limit : ℕ) → less ≤ lo → Left os b lo limit → Left os b less limit
+  left_less lo less limit le h i j g k m = let l = h i j g k m in (omega (arith, l.0), omega (arith, l.1))
+
+  pub left-more : (lo limit : ℕ) (r : Option ℕ) → Left os b lo limit → Scanned os b lo limit r → Left os b (lo + 16381 * b) (unwrap_or r limit)
   left-more lo limit r h s i j g k m =
       elim (dec_le (lo + 16381 * b) (os i)) [ yes p ↦ elim (dec_le (lo + 16381 * b) (os j)) [ yes q ↦ (p, q) | no q ↦ absurd (never (inr q)) ] | no p ↦ absurd (never (inl p)) ]
     where
       l : (lo ≤ os i) × (lo ≤ os j)
-      l = h i j (lt_of_lt_of_le g s.within) k m
+      l = h i j (lt_of_lt_of_le g (hit_le os b limit r s.hit)) k m
 
       never : ((lo + 16381 * b ≤ os i → ⊥) ⊎ (lo + 16381 * b ≤ os j → ⊥)) → ⊥
       never =
@@ -154,18 +173,36 @@ module _ (os : ℕ → ℕ) (n b : ℕ) where
           (λ (p : lo + 16381 * b ≤ os i → ⊥). s.clear i j g k (record { stored = m.right; low = l.0; high = omega arith }) (record { stored = m.left; low = l.1; high = omega (arith, m.below) }) m)
           (λ (q : lo + 16381 * b ≤ os j → ⊥). s.clear i j g k (record { stored = m.right; low = l.0; high = omega (arith, m.above) }) (record { stored = m.left; low = l.1; high = omega arith }) m)
 
-  pub left_next : (lo end limit r : ℕ) → limit ≤ n → Left os b lo limit → NextStart os n lo end r → Left os b r limit
-  left_next lo end limit r hi h s i j g k m =
+  pub left_next : (lo limit r : ℕ) → limit ≤ n → Left os b lo limit → NextStart os n lo (Some r) → Left os b r limit
+  left_next lo limit r hi h s i j g k m =
       let l = h i j g k m in
-      (s.first i (lt_of_lt_of_le g hi) l.0, s.first j (omega arith) l.1)
+      (s.1 i (lt_of_lt_of_le g hi) m.right l.0, s.1 j (omega arith) m.left l.1)
 
-  pub hit-more : (lo limit r : ℕ) → Hit os b n limit → Scanned os b lo limit r → Hit os b n r
-  hit-more lo limit r h s =
-      ⊎_elim (λ (e : r ≡ limit). rw e h) (λ (g : r < limit). λ _. s.hit g) (eq-or-lt_of_le s.within)
+  -- past the last offset no brick is left
+  pub left_end : (lo limit : ℕ) → limit ≤ n → Left os b lo limit → NextStart os n lo None → (i j : ℕ) → i < limit → j < i → Near b (os j) (os i) → ⊥
+  left_end lo limit hi h s i j g k m = omega (arith, s i (lt_of_lt_of_le g hi) m.right, h i j g k m)
 
-  -- past the end no brick is left
-  pub left_end : (from end lo limit : ℕ) → limit ≤ n → Placed os n from end → end ≤ lo → Left os b lo limit → (i j : ℕ) → i < limit → j < i → Near b (os j) (os i) → ⊥
-  left_end from end lo limit hi p e h i j g k m = omega (arith, p i (lt_of_lt_of_le g hi) m.right, h i j g k m)
+  pub hit-or : (limit : ℕ) (r best : Option ℕ) → limit ≤ n → Hit os b limit r → Hit os b n best → Hit os b n (option_or r best)
+  hit-or limit None best hi h g = g
+  hit-or limit (Some e) best hi h g = (omega (arith, h.0), h.1, h.2, h.3)
+
+-- where the next window starts, as the loop leaves it: at lo or past all offsets, and at no offset before it
+pub next_found : (t : Table) (f : List ℕ) (lo next : ℕ) → min lo (2 ^ 63) ≤ next → ((k : ℕ) → k < t.count → 0 < offset_at t f k → lo ≤ offset_at t f k → next ≤ offset_at t f k)
+    → NextStart (offset_at t f) t.count lo (then_some (ltb next (2 ^ 63)) next)
+next_found t f lo next low all = by (ltb next (2 ^ 63)) refl
+  where
+    by : (b : Bool) → ltb next (2 ^ 63) ≡ b → NextStart (offset_at t f) t.count lo (then_some b next)
+    by true e = (omega (arith, ltb-true next (2 ^ 63) e), all)
+    by false e = λ k g s. lt_of_not-le (λ l. omega (arith, ltb-false next (2 ^ 63) e, all k g s l, at_stored t f k (offset_at t f k) (offset_stored t f k s)))
+
+-- after one window more: what is left to search, and what was found
+module _ (os : ℕ → ℕ) (n b lo : ℕ) (r best : Option ℕ) (s : Scanned os b lo (unwrap_or best n) r) (h : Hit os b n best) where
+  pub hit_window : Hit os b n (option_or r best)
+  hit_window = hit-or os n b (unwrap_or best n) r best (hit_le os b n best h) s.hit h
+
+  pub left_window : (less : ℕ) → less ≤ lo + 16381 * b → Left os b lo (unwrap_or best n) → Left os b less (unwrap_or (option_or r best) n)
+  left_window less le l =
+      rw (or_limit n r best) (left_less os n b (lo + 16381 * b) less (unwrap_or r (unwrap_or best n)) le (left-more os n b lo (unwrap_or best n) r l s))
 
 -- one turn of a search, for the entry's offset o as the code has it
 module _ (os : ℕ → ℕ) (b lo i : ℕ) (cells : List ℕ) (t : Filled os b lo i cells) (cl : Clear os b lo i) (o : ℕ) (e : o ≡ os i) where
@@ -175,13 +212,10 @@ module _ (os : ℕ → ℕ) (b lo i : ℕ) (cells : List ℕ) (t : Filled os b l
       let none' : (s : ℕ) → c ≤ s → s ≤ c + 2 → Near b (get_or cells s 0) (os i) → ⊥ = λ s g h n. none s g h (rw e n) in
       (rw e (table_put os b lo i cells pos t (rw e at here) c (rw e at is_c) small none'), clear-put os b lo i cells pos t (rw e at here) c (rw e at is_c) small none' cl)
 
-  pub skip : (Inside b lo o → ⊥) → Filled os b lo (i + 1) cells × Clear os b lo (i + 1)
-  skip out = (table_skip os b lo t (λ h. out (rw e h)), clear_skip os b lo cl (λ h. out (rw e h)))
-
-  pub stop : (limit : ℕ) → i < limit → (s : ℕ) × Near b (get_or cells s 0) o → Scanned os b lo limit i
+  pub stop : (limit : ℕ) → i < limit → (s : ℕ) × Near b (get_or cells s 0) o → Scanned os b lo limit (Some i)
   stop limit g h =
       let r = t.real h.0 h.1.left in
-      record { within = omega arith; clear = λ m j. λ q k. cl m q j k; hit = λ _. (r.0, r.1, rw (r.2, ← e) h.1) }
+      record { clear = λ m j. λ q k. cl m q j k; hit = (g, r.0, r.1, rw (r.2, ← e) h.1) }
 
-pub done : (os : ℕ → ℕ) (b lo i limit : ℕ) → Clear os b lo i → i ≡ limit → Scanned os b lo limit i
-done os b lo i limit cl e = record { within = omega arith; clear = λ m j q k. cl m q j k; hit = λ g. absurd (omega arith) }
+pub done : (os : ℕ → ℕ) (b lo i limit : ℕ) → Clear os b lo i → i ≡ limit → Scanned os b lo limit None
+done os b lo i limit cl e = record { clear = λ m j q k. cl m (omega arith) j k; hit = tt }

@@ -1,4 +1,7 @@
 -- What an entry's word names, by the word's size, and the offset in it. Assumes nothing.
+use Rattle.std.specs.Option.{IfSome}
+use Rattle.std.proofs.Common.{Some, None}
+use Rattle.std.proofs.lemmas.Option.{same_Some, none-some}
 use mathlib.Core.Path.{◌≡◌, refl, sym, ap, ◌∙◌}
 use mathlib.Core.Logic.{⊎_elim}
 use mathlib.Core.List.{List}
@@ -12,7 +15,7 @@ use Rattle.endian.proofs.Bytes.{le_same}
 use Rattle.table.specs.declared.Kind.{Kind}
 use Rattle.table.specs.declared.Kind.TheVariants.{Missing, Constant, Stored}
 use Rattle.table.specs.declared.Table.{Table}
-use Rattle.table.specs.Entries.{kind_of, offset_in, word_at, kind_at, Width}
+use Rattle.table.specs.Entries.{kind_of, offset_in, stored_in, word_at, kind_at, Width}
 use Rattle.table.specs.Windows.{offset_at}
 
 pub other_width : (w : ℕ) → Width w → (w ≡ 1 → ⊥) → (w ≡ 2 → ⊥) → w ≡ 4
@@ -47,7 +50,7 @@ not-missing o e = let z : ◌≡◌ {A = ℕ} 0 1 = cc in omega arith
 not_constant : (a o : ℕ) → Constant a ≡ Stored o → ⊥
 not_constant a o e = let z : ◌≡◌ {A = ℕ} 0 1 = cc in omega arith
 
-same_offset : (a o : ℕ) → Stored a ≡ Stored o → a ≡ o
+pub same_offset : (a o : ℕ) → Stored a ≡ Stored o → a ≡ o
 same_offset a o e = cc
 
 -- a stored brick's word is its offset, at least 2 and below 2 ^ 63
@@ -65,12 +68,43 @@ in_stored Missing h = absurd (omega arith)
 in_stored (Constant v) h = absurd (omega arith)
 in_stored (Stored o) h = refl
 
+pub stored_some : (k : Kind) (o : ℕ) → stored_in k ≡ Some o → k ≡ Stored o
+stored_some Missing o e = absurd (none-some o e)
+stored_some (Constant v) o e = absurd (none-some o e)
+stored_some (Stored p) o e = ap Stored (same_Some p o e)
+
 -- an entry of a table
 module _ (t : Table) (f : List ℕ) (e : ℕ) where
   -- its word is its offset, at least 2 and below 2 ^ 63
   pub at_stored : (o : ℕ) → kind_at t f e ≡ Stored o → (word_at t f e ≡ o) × (2 ≤ o) × (o < 2 ^ 63)
   unfolding kind_at
   at_stored = kind_stored t.width (word_at t f e)
+
+  pub stored_small : IfSome (stored_in (kind_at t f e)) (λ o. (0 < o) × (o < 2 ^ 63))
+  stored_small = go (kind_at t f e) refl
+    where
+      go : (k : Kind) → kind_at t f e ≡ k → IfSome (stored_in k) (λ o. (0 < o) × (o < 2 ^ 63))
+      go Missing s = tt
+      go (Constant v) s = tt
+      go (Stored o) s = let q = at_stored o s in (omega (arith, q.1), q.2)
+
+  pub stored_offset : (o : ℕ) → stored_in (kind_at t f e) ≡ Some o → offset_at t f e ≡ o
+  unfolding offset_at
+  stored_offset o = go (kind_at t f e)
+    where
+      go : (k : Kind) → stored_in k ≡ Some o → offset_in k ≡ o
+      go Missing s = absurd (none-some o s)
+      go (Constant v) s = absurd (none-some o s)
+      go (Stored p) s = same_Some p o s
+
+  pub stored_none : stored_in (kind_at t f e) ≡ None → offset_at t f e ≡ 0
+  unfolding offset_at
+  stored_none = go (kind_at t f e)
+    where
+      go : (k : Kind) → stored_in k ≡ None → offset_in k ≡ 0
+      go Missing s = refl
+      go (Constant v) s = refl
+      go (Stored p) s = absurd (none-some p (sym s))
 
   pub offset_kind : (k : Kind) → kind_at t f e ≡ k → offset_in k ≡ offset_at t f e
   unfolding offset_at

@@ -1,7 +1,9 @@
 -- The brick table of a cube (FORMAT 5, 6): the word of each entry, what it names, and checks 12 and 13.
-use Rattle.std.specs.Prelude.{Bool, false, not, ◌&&◌, cond, List, ◌⊎◌, ◌≡◌, ℕ, ◌+◌, ◌*◌, ◌%◌, ◌^◌, ◌≤◌, eqb, leb, ltb, length}
+use Rattle.std.specs.Prelude.{Bool, false, not, ◌&&◌, cond, Option, Some, None, List, ◌⊎◌, ◌≡◌, ℕ, ◌+◌, ◌*◌, ◌%◌, ◌^◌, ◌≤◌, eqb, leb, ltb, length}
+use Rattle.std.specs.Coded.{Coded-set, coded_ℕ, le_prop}
+use Rattle.std.proofs.Common.{inl, inr, ap, arith}
 use Rattle.geometry.specs.Limits.{bytes_room}
-use Rattle.endian.specs.Loops.{first}
+use Rattle.endian.specs.Loops.{first, any}
 use Rattle.endian.specs.Bytes.{le}
 use Rattle.record.specs.Types.{width_of}
 use Rattle.record.specs.Record.{bricks_of, alphas_of, brick_bytes_of, table_of, header_of}
@@ -26,6 +28,12 @@ abbrev pub offset_in : Kind → ℕ
 offset_in Missing = 0
 offset_in (Constant v) = 0
 offset_in (Stored o) = o
+
+-- the offset of a stored brick, and none for the others
+abbrev pub stored_in : Kind → Option ℕ
+stored_in Missing = None
+stored_in (Constant v) = None
+stored_in (Stored o) = Some o
 
 -- check 12 of what an entry names, in a file of n bytes whose headers end at h: a brick of b bytes must lie after the headers and end in the file
 unfoldable pub out_of_range : ℕ → ℕ → ℕ → Kind → Bool
@@ -69,6 +77,10 @@ table_in r = record {
   width = width_of r.description.datatype;
 }
 
+-- the lowest number below n that passes, where one does
+unfoldable pub lowest : (ℕ → Bool) → ℕ → Option ℕ
+lowest p n = cond (any p n) (Some (first p n)) None
+
 -- of the cube with record r and the bytes f: the word of entry e, what the entry names, and checks 12 and 13 of it
 module _ (r : Record) (f : List ℕ) where
   unfoldable pub word_in : ℕ → ℕ
@@ -100,3 +112,18 @@ pub record Readable (t : Table) (n : ℕ) : Type 0 where
   pub few : t.count ≤ brick_limit
   pub item : Width t.width
   pub small : t.brick ≤ bytes_room
+
+-- each of the two has one proof at most
+pub Width-prop : (w : ℕ) → IsProp (Width w)
+Width-prop w (inl a) (inl b) = ap inl (Coded-set coded_ℕ w 1 a b)
+Width-prop w (inl a) (inr (inl b)) = absurd (omega arith)
+Width-prop w (inl a) (inr (inr b)) = absurd (omega arith)
+Width-prop w (inr (inl a)) (inl b) = absurd (omega arith)
+Width-prop w (inr (inl a)) (inr (inl b)) = ap (λ e. inr (inl e)) (Coded-set coded_ℕ w 2 a b)
+Width-prop w (inr (inl a)) (inr (inr b)) = absurd (omega arith)
+Width-prop w (inr (inr a)) (inl b) = absurd (omega arith)
+Width-prop w (inr (inr a)) (inr (inl b)) = absurd (omega arith)
+Width-prop w (inr (inr a)) (inr (inr b)) = ap (λ e. inr (inr e)) (Coded-set coded_ℕ w 4 a b)
+
+pub Readable-prop : (t : Table) (n : ℕ) → IsProp (Readable t n)
+Readable-prop t n = Prim.hlevel (le_prop, Width-prop)

@@ -1,10 +1,12 @@
 // The brick table: where it is, what each entry names, that it lies in the file (check 12), and that no two share a byte (check 13).
 #![tactic(auto)]
 
-ghost use Rattle.std.specs.Prelude.{◌≡◌, ◌+◌, ◌-◌, ◌*◌, ◌/◌, ◌%◌, ◌^◌, ◌≤◌, ◌<◌, min, length};
-ghost use Rattle.endian.specs.Loops.{first};
-ghost use Rattle.table.specs.Entries.{kind_of, word_at, kind_at, outside_at, overlaps_at, table_in, Width, Derived, Readable};
-ghost use Rattle.table.specs.Windows.{offset_at, Decides, Near, Inside, Scanned, Touched, NextStart};
+ghost use Rattle.std.specs.Prelude.{MatchOption, IfSome, ◌≡◌, ◌+◌, ◌-◌, ◌*◌, ◌/◌, ◌%◌, ◌^◌, ◌≤◌, ◌<◌, min, length};
+ghost use Rattle.table.specs.Entries.{kind_of, word_at, kind_at, outside_at, overlap, overlaps_at, lowest, stored_in, table_in};
+ghost use Rattle.table.specs.Entries.{Width, Derived, Readable, Readable-prop};
+ghost use Rattle.record.specs.Record.{header_of};
+ghost use Rattle.table.specs.Windows.{offset_at, Inside, Scanned, Touched, NextStart};
+ghost use Rattle.table.specs.declared.Kind.TheVariants.{Stored};
 
 use endian::u64_at;
 use geometry::table_start;
@@ -53,11 +55,8 @@ fn low_bytes(word: u64, width: u32) -> u32
     requires { Width width }
     ensures { result ≡ word % 256 ^ width }
 {
-    match width {
-        1 => (word % 256) as u32,
-        2 => (word % 65536) as u32,
-        _ => (word % 4294967296) as u32,
-    }
+    let span: u64 = 1 << (8 * width);
+    (word % span) as u32
 }
 
 // What an entry with this word names, for items of this many bytes.
@@ -65,238 +64,217 @@ fn kind_of(word: u64, width: u32) -> Kind
     requires { Width width }
     ensures { result ≡ kind_of width word }
 {
-    if word == 0 {
-        return Kind::Missing;
+    match word {
+        0 => Kind::Missing,
+        1 => Kind::Constant(0),
+        END.. => Kind::Constant(low_bytes(word, width)),
+        _ => Kind::Stored(word),
     }
-    if word == 1 {
-        return Kind::Constant(0);
-    }
-    if END <= word {
-        return Kind::Constant(low_bytes(word, width));
-    }
-    Kind::Stored(word)
 }
 
-fn word_at(file: &[u8], t: Table, entry: usize) -> u64
-    requires { Readable t (length file.now) × (entry < t.count) }
-    ensures { result ≡ word_at t file.now entry }
-{
-    u64_at(file, t.start + 8 * entry)
+impl Kind {
+    // The offset of a stored brick.
+    pub fn offset(self) -> Option<u64>
+        ensures { result ≡ stored_in self }
+    {
+        match self {
+            Kind::Missing | Kind::Constant(_) => None,
+            Kind::Stored(offset) => Some(offset),
+        }
+    }
 }
 
-// What an entry names.
+// The entries of a table that lies in this file.
+#[derive(Clone, Copy)]
+pub struct Entries<'a> {
+    pub file: &'a [u8],
+    pub table: Table,
+    ghost readable: { Readable table (length file.now) } by { Readable-prop table (length file.now) },
+}
+
+impl<'a> Entries<'a> {
+    // The entries of the cube with this record, of a file that has all headers.
+    pub fn of(file: &'a [u8], r: Record) -> Entries<'a>
+        requires { Derived r × (header_of r.description r.text ≤ length file.now) }
+        ensures table { result.table ≡ table_in r }
+        ensures file { result.file.now ≡ file.now }
+    {
+        Entries {
+            file,
+            table: table_in(r),
+        }
+    }
+
+    fn word(&self, entry: usize) -> u64
+        requires { entry < self.now.table.count }
+        ensures { result ≡ word_at self.now.table self.now.file.now entry }
+    {
+        u64_at(self.file, self.table.start + 8 * entry)
+    }
+
+    // What an entry names.
+    pub fn kind(&self, entry: usize) -> Kind
+        requires { entry < self.now.table.count }
+        ensures { result ≡ kind_at self.now.table self.now.file.now entry }
+    {
+        kind_of(self.word(entry), self.table.width)
+    }
+
+    // The offset of an entry's brick, where it is stored.
+    fn offset(&self, entry: usize) -> Option<u64>
+        requires { entry < self.now.table.count }
+        ensures offset { result ≡ stored_in (kind_at self.now.table self.now.file.now entry) }
+        ensures small { IfSome result (λ o. (0 < o) × (o < 9223372036854775808)) }
+    {
+        self.kind(entry).offset()
+    }
+
+    // Check 12 of an entry. An offset is so far below the end of its type that no brick's end wraps.
+    pub fn is_out_of_range(&self, entry: usize) -> bool
+        requires { entry < self.now.table.count }
+        ensures { result ≡ outside_at self.now.table self.now.file.now entry }
+    {
+        let header = self.table.header;
+        let brick = self.table.brick;
+        let length = self.file.len() as u64;
+        self.offset(entry)
+            .is_some_and(|offset| offset < header || length < offset + brick)
+    }
+
+    // Check 12: the lowest entry whose brick does not lie between the headers and the end of the file.
+    pub fn lowest_out_of_range(&self) -> Option<usize>
+        ensures { result ≡ lowest (outside_at self.now.table self.now.file.now) self.now.table.count }
+    {
+        (0..self.table.count).find(|entry| self.is_out_of_range(*entry))
+    }
+
+    // The brick of an entry overlaps that of a lower entry.
+    fn overlaps_lower(&self, entry: usize) -> bool
+        requires { entry < self.now.table.count }
+        ensures { result ≡ overlaps_at self.now.table self.now.file.now entry }
+    {
+        let Some(offset) = self.offset(entry) else {
+            return false;
+        };
+        let brick = self.table.brick;
+        (0..entry).any(|lower| self
+            .offset(lower)
+            .is_some_and(|other| near(brick, other, offset)))
+    }
+
+    // The lowest entry below limit that overlaps a lower one, pair by pair.
+    fn first_pair(&self, limit: usize) -> Option<usize>
+        requires { limit ≤ self.now.table.count }
+        ensures { result ≡ lowest (overlaps_at self.now.table self.now.file.now) limit }
+    {
+        (0..limit).find(|entry| self.overlaps_lower(*entry))
+    }
+
+    // The first entry below limit that overlaps a lower one, both inside the window from start.
+    //
+    // The window has a cell for each brick's length, and a spare one at each end. A cell holds the offset that falls in it:
+    // two offsets that overlap fall in one cell or in neighbours. It holds 0 before: an Option in each cell takes twice the memory.
+    fn scan(&self, limit: usize, start: u64) -> Option<usize>
+        requires { (0 < self.now.table.brick) × (limit ≤ self.now.table.count) }
+        ensures { Scanned (offset_at self.now.table self.now.file.now) self.now.table.brick start limit result }
+    {
+        let brick = self.table.brick;
+        let mut cells = [0u64; 16384];
+        for entry in 0..limit {
+            if let Some(offset) = self.offset(entry)
+                && let Some(c) = cell(brick, start, offset)
+            {
+                if touches(&cells, c, brick, offset) {
+                    return Some(entry);
+                }
+                cells[c + 1] = offset;
+            }
+        }
+        None
+    }
+
+    // The lowest stored offset at start or after it.
+    fn next_start(&self, start: u64) -> Option<u64>
+        ensures { NextStart (offset_at self.now.table self.now.file.now) self.now.table.count start result }
+    {
+        // A loop, since a chain to `min` branches on each offset and takes a third longer.
+        let mut next = END;
+        for entry in 0..self.table.count {
+            if let Some(offset) = self.offset(entry)
+                && start <= offset
+            {
+                next = next.min(offset);
+            }
+        }
+        (next < END).then_some(next)
+    }
+
+    // Check 13: the lowest entry whose brick overlaps that of a lower entry.
+    //
+    // The file is searched one window after the other, each 16,382 bricks long. They step by a brick less, so that two
+    // neighbouring cells are in one window whole. Only a vast and sparse file has more than 128 windows with a brick
+    // in them: there the entries below the best so far are searched pair by pair, which bounds the time for any file.
+    pub fn lowest_overlap(&self) -> Option<usize>
+        requires bricks { 0 < self.now.table.brick }
+        requires in_range { lowest (outside_at self.now.table self.now.file.now) self.now.table.count ≡ None }
+        ensures { result ≡ lowest (overlaps_at self.now.table self.now.file.now) self.now.table.count }
+    {
+        let mut best = None;
+        let mut start = self.table.header;
+        for _ in 0..128 {
+            let limit = best.unwrap_or(self.table.count);
+            best = self.scan(limit, start).or(best);
+            // Every offset is far below the end of its type, so it matters little where a start stops that passes all of them.
+            match self.next_start(start.saturating_add(16381 * self.table.brick)) {
+                Some(next) => start = next,
+                None => return best,
+            }
+        }
+        let limit = best.unwrap_or(self.table.count);
+        self.first_pair(limit).or(best)
+    }
+}
+
+// What an entry of the table t in this file names.
 pub fn kind_at(file: &[u8], t: Table, entry: usize) -> Kind
     requires { Readable t (length file.now) × (entry < t.count) }
     ensures { result ≡ kind_at t file.now entry }
 {
-    kind_of(word_at(file, t, entry), t.width)
+    Entries { file, table: t }.kind(entry)
 }
 
-// Check 12 of an entry. An offset is so far below the end of its type that no brick's end wraps.
+// Check 12 of an entry of the table t in this file.
 pub fn out_of_range(file: &[u8], t: Table, entry: usize) -> bool
     requires { Readable t (length file.now) × (entry < t.count) }
     ensures { result ≡ outside_at t file.now entry }
 {
-    let kind = kind_at(file, t, entry);
-    match kind {
-        Kind::Missing => false,
-        Kind::Constant(_) => false,
-        Kind::Stored(offset) => {
-            !((t.header <= offset) & (offset + t.brick <= file.len() as u64))
-        }
-    }
-}
-
-// Check 12: the lowest entry whose brick does not lie between the headers and the end of the file, or the number of entries.
-pub fn lowest_out_of_range(file: &[u8], t: Table) -> usize
-    requires { Readable t (length file.now) }
-    ensures { result ≡ first (outside_at t file.now) t.count }
-{
-    let mut lowest = 0;
-    while lowest < t.count {
-        if out_of_range(file, t, lowest) {
-            return lowest;
-        }
-        lowest += 1;
-    }
-    lowest
-}
-
-// The offset of an entry's brick, or 0 where it is not stored.
-fn offset_at(file: &[u8], t: Table, entry: usize) -> u64
-    requires { Readable t (length file.now) × (entry < t.count) }
-    ensures { result ≡ offset_at t file.now entry }
-{
-    let kind = kind_at(file, t, entry);
-    match kind {
-        Kind::Missing => 0,
-        Kind::Constant(_) => 0,
-        Kind::Stored(offset) => offset,
-    }
-}
-
-// How far two offsets are apart.
-fn distance(left: u64, right: u64) -> u64
-    ensures { result ≡ (left - right) + (right - left) }
-{
-    if left <= right {
-        right - left
-    } else {
-        left - right
-    }
+    Entries { file, table: t }.is_out_of_range(entry)
 }
 
 // Stored bricks at two offsets have a byte in common.
 fn near(brick: u64, left: u64, right: u64) -> bool
-    ensures { Decides (Near brick left right) result }
+    ensures { result ≡ overlap brick (Stored left) (Stored right) }
 {
-    if left == 0 {
-        return false;
-    }
-    if right == 0 {
-        return false;
-    }
-    distance(left, right) < brick
+    right.abs_diff(left) < brick
 }
 
-// The brick of an entry overlaps that of a lower entry.
-fn overlaps_lower(file: &[u8], t: Table, entry: usize) -> bool
-    requires { Readable t (length file.now) × (entry < t.count) }
-    ensures { result ≡ overlaps_at t file.now entry }
+// The cell of a stored offset in the window from start: how many bricks' lengths it lies after the start.
+fn cell(brick: u64, start: u64, offset: u64) -> Option<usize>
+    requires { (0 < brick) × (brick ≤ 4294967296) × (0 < offset) }
+    ensures { MatchOption result (Inside brick start offset → ⊥) (λ c. Inside brick start offset × (c ≡ (offset - start) / brick) × (c < 16382)) }
 {
-    let offset = offset_at(file, t, entry);
-    let mut lower = 0;
-    while lower < entry {
-        if near(t.brick, offset_at(file, t, lower), offset) {
-            return true;
-        }
-        lower += 1;
-    }
-    false
-}
-
-// The lowest entry below limit that overlaps a lower one, pair by pair; or limit.
-fn first_pair(file: &[u8], t: Table, limit: usize) -> usize
-    requires { Readable t (length file.now) × (limit ≤ t.count) }
-    ensures { result ≡ first (overlaps_at t file.now) limit }
-{
-    let mut entry = 0;
-    while entry < limit {
-        if overlaps_lower(file, t, entry) {
-            return entry;
-        }
-        entry += 1;
-    }
-    entry
-}
-
-// The offset is stored and in the window from start.
-fn inside(brick: u64, start: u64, offset: u64) -> bool
-    requires { brick ≤ 4294967296 }
-    ensures { Decides (Inside brick start offset) result }
-{
-    if offset == 0 {
-        return false;
-    }
-    if offset < start {
-        return false;
-    }
-    offset - start < 16382 * brick
-}
-
-// The number of bricks' lengths from start to offset.
-fn cell(brick: u64, start: u64, offset: u64) -> usize
-    requires { (0 < brick) × Inside brick start offset }
-    ensures { (result ≡ (offset - start) / brick) × (result < 16382) }
-{
-    ((offset - start) / brick) as usize
+    let past = offset
+        .checked_sub(start)
+        .filter(|past| *past < 16382 * brick)?;
+    Some((past / brick) as usize)
 }
 
 // One of the cells c to c + 2 holds an offset that overlaps this one.
 fn touches(cells: &[u64; 16384], c: usize, brick: u64, offset: u64) -> bool
-    requires { c < 16382 }
+    requires { (c < 16382) × (0 < offset) }
     ensures { Touched cells.now c brick offset result }
 {
-    if near(brick, cells[c], offset) {
-        return true;
-    }
-    if near(brick, cells[c + 1], offset) {
-        return true;
-    }
-    near(brick, cells[c + 2], offset)
-}
-
-// The first entry below limit that overlaps a lower one, both inside the window from start; or limit.
-//
-// The window has a cell for each brick's length, and a spare one at each end. A cell holds the offset that falls in it:
-// two offsets that overlap fall in one cell or in neighbours.
-fn scan(file: &[u8], t: Table, limit: usize, start: u64) -> usize
-    requires { Readable t (length file.now) × (0 < t.brick) × (limit ≤ t.count) }
-    ensures { Scanned (offset_at t file.now) t.brick start limit result }
-{
-    let mut cells = [0u64; 16384];
-    let mut entry = 0;
-    while entry < limit {
-        let offset = offset_at(file, t, entry);
-        if inside(t.brick, start, offset) {
-            let c = cell(t.brick, start, offset);
-            if touches(&cells, c, t.brick, offset) {
-                return entry;
-            }
-            cells[c + 1] = offset;
-        }
-        entry += 1;
-    }
-    entry
-}
-
-// The lower of best and offset, where the offset is at start or after it.
-fn sooner(start: u64, offset: u64, best: u64) -> u64
-    ensures { (result ≤ best) × (start ≤ offset → result ≤ offset) × (min start best ≤ result) }
-{
-    if offset < start {
-        return best;
-    }
-    if offset < best {
-        return offset;
-    }
-    best
-}
-
-// Where the next window starts: at start or after it, and past no stored offset that is; or at the end of all offsets.
-fn next_start(file: &[u8], t: Table, start: u64) -> u64
-    requires { Readable t (length file.now) }
-    ensures { NextStart (offset_at t file.now) t.count start 9223372036854775808 result }
-{
-    let mut best = END;
-    let mut entry = 0;
-    while entry < t.count {
-        best = sooner(start, offset_at(file, t, entry), best);
-        entry += 1;
-    }
-    best
-}
-
-// Check 13: the lowest entry whose brick overlaps that of a lower entry, or the number of entries.
-//
-// The file is searched one window after the other, each 16,382 bricks long. They step by a brick less, so that two
-// neighbouring cells are in one window whole. Only a vast and sparse file has more than 128 windows with a brick
-// in them: there the entries below the best so far are searched pair by pair, which bounds the time for any file.
-pub fn lowest_overlap(file: &[u8], t: Table) -> usize
-    requires readable { Readable t (length file.now) × (0 < t.brick) }
-    requires count_value { first (outside_at t file.now) t.count ≡ t.count }
-    ensures { result ≡ first (overlaps_at t file.now) t.count }
-{
-    let mut best = t.count;
-    let mut start = t.header;
-    let mut windows: u32 = 0;
-    while start < END {
-        if windows == 128 {
-            return first_pair(file, t, best);
-        }
-        best = scan(file, t, best, start);
-        start = next_start(file, t, start + 16381 * t.brick);
-        windows += 1;
-    }
-    best
+    cells[c..c + 3]
+        .iter()
+        .any(|held| *held != 0 && near(brick, *held, offset))
 }

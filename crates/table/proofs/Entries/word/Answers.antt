@@ -1,5 +1,5 @@
 use Rattle.table.specs.Entries.{word_at}
-use Rattle.table.proofs.word_at.Goals as goal
+use Rattle.table.proofs.Entries.word.Goals as goal
 
 pub returns : goal.returns
 unfolding word_at
