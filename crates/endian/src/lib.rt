@@ -4,26 +4,16 @@
 ghost use Rattle.std.specs.Prelude.{◌≡◌, ◌+◌, ◌*◌, ◌<◌, ◌≤◌, length, get_or};
 ghost use Rattle.endian.specs.Bytes.{le, peek, put};
 
-// A number of two bytes, the lowest first.
-fn join2(a: u8, b: u8) -> u16
-    ensures { result ≡ a + 256 * b }
+// N bytes from a place on, as an array.
+fn bytes_at<const N: usize>(s: &[u8], at: usize) -> [u8; N]
+    requires { at + N ≤ length s.now }
+    ensures { result ≡ peek s.now at N }
 {
-    (a as u16) + 256 * (b as u16)
+    *s[at..].first_chunk::<N>().unwrap()
 }
 
-fn join4(a: u8, b: u8, c: u8, d: u8) -> u32
-    ensures { result ≡ a + 256 * (b + 256 * (c + 256 * d)) }
-{
-    (a as u32) + 256 * ((b as u32) + 256 * ((c as u32) + 256 * (d as u32)))
-}
-
-// A number of two halves, the lower first.
-fn join_halves(low: u32, high: u32) -> u64
-    ensures { result ≡ low + 4294967296 * high }
-{
-    (low as u64) + 4294967296 * (high as u64)
-}
-
+// A number of each width at a place. Each stays a function of its own: the library reads bytes by a function of each integer type, of which no
+// trait makes one.
 pub fn u8_at(s: &[u8], at: usize) -> u8
     requires { at < length s.now }
     ensures { result ≡ get_or s.now at 0 }
@@ -35,21 +25,21 @@ pub fn u16_at(s: &[u8], at: usize) -> u16
     requires { at + 2 ≤ length s.now }
     ensures { result ≡ le 2 s.now at }
 {
-    join2(s[at], s[at + 1])
+    u16::from_le_bytes(bytes_at(s, at))
 }
 
 pub fn u32_at(s: &[u8], at: usize) -> u32
     requires { at + 4 ≤ length s.now }
     ensures { result ≡ le 4 s.now at }
 {
-    join4(s[at], s[at + 1], s[at + 2], s[at + 3])
+    u32::from_le_bytes(bytes_at(s, at))
 }
 
 pub fn u64_at(s: &[u8], at: usize) -> u64
     requires { at + 8 ≤ length s.now }
     ensures { result ≡ le 8 s.now at }
 {
-    join_halves(u32_at(s, at), u32_at(s, at + 4))
+    u64::from_le_bytes(bytes_at(s, at))
 }
 
 // Byte by byte: runs below 4 bytes, and the load and the store of a piece.

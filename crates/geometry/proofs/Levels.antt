@@ -3,13 +3,15 @@ use mathlib.Core.Path.{◌≡◌, refl, sym, ap, ◌∙◌}
 use mathlib.Core.Logic.{⊎_elim}
 use mathlib.Core.Bool.{Bool, true, false}
 use mathlib.Core.List.{List}
-use Prim.Native.Nat.{ℕ, zero, suc, ◌+◌, ◌-◌, ◌*◌, ◌/◌, ◌^◌, ◌≤◌, ◌<◌, zero-le}
-use native.Mathlib.Nat.{eq-or-lt_of_le, le_refl, le_antisymm, le_trans, div-lt_iff_lt-mul, mul_assoc, mul_comm, mul-pos, pow-suc, add-mul, one-mul, mul-le-mul, one-le-mul, le-mul_of_pos_right}
+use Prim.Native.Nat.{ℕ, zero, suc, min, ◌+◌, ◌-◌, ◌*◌, ◌/◌, ◌%◌, ◌^◌, ◌≤◌, ◌<◌, zero-le}
+use native.Mathlib.Nat.{eq-or-lt_of_le, le_refl, le_antisymm, le_trans, div-lt_iff_lt-mul, mul_assoc, mul_comm, mul-pos, pow-suc, add-mul, one-mul, mul-le-mul, one-le-mul, le-mul_of_pos_right, lt_of_mul-lt-mul_right}
 use native.Mathlib.Omega.{arith}
 use lib.Pow.{pow_pos}
 use lib.Dec.{eqb}
 use lib.ListN.{get_or}
 use borrow.Author.Tests.{eqb-true, eq-eqb}
+use Rattle.std.specs.Int.{div_ceil}
+use Rattle.std.proofs.lemmas.Grind.{div_ceil_times}
 use Rattle.endian.specs.Loops.{first, first_from, sum_to}
 use Rattle.endian.proofs.Search.{clash, first-le, first_upto, first_at, first_before, first-is}
 use Rattle.geometry.specs.Limits.{least_exponent, size_limit, level_cap, count_room}
@@ -28,6 +30,18 @@ ceil_le⁻¹ n d m pos h =
     let u : (n + (d - 1)) / d < m + 1 = omega arith in
     let t : n + (d - 1) < (m + 1) * d = (div-lt_iff_lt-mul pos).0 u in
     omega (arith, add-mul m 1 d, one-mul d)
+
+-- the library's quotient, rounded up
+pub div_ceil-is : (n d : ℕ) → 0 < d → div_ceil n d ≡ ceil_div n d
+div_ceil-is n d pos =
+    let t = div_ceil_times n d pos in
+    let m = n / d + min 1 (n % d) in
+    let below : ceil_div n d ≤ m = ceil_le n d m pos t.0 in
+    let q = ceil_div n d in
+    let b : n ≤ q * d = ceil_le⁻¹ n d q pos (le_refl q) in
+    let s : m * d < (q + 1) * d = omega (arith, add-mul q 1 d, one-mul d, t.1) in
+    let above : m < q + 1 = lt_of_mul-lt-mul_right d s in
+    omega (arith, below, above)
 
 -- rounding up twice is rounding up once
 pub ceil_ceil : (n d e : ℕ) → 0 < d → 0 < e → ceil_div (ceil_div n d) e ≡ ceil_div n (d * e)

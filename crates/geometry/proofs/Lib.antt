@@ -3,3 +3,4 @@ pub mod Powers
 pub mod Levels
 pub mod Entries
 pub mod ShapeOf
+pub mod LevelOf

@@ -19,6 +19,9 @@ pub const GREATEST_EXPONENT: u32 = 6;
 // The largest size, the most bricks of all levels, and the shortest and the longest text.
 pub const SIZE_LIMIT: u32 = 1048576;
 
+// The levels that are searched for the last one: at level 20 one sample is left of the largest size.
+const LEVEL_CAP: u64 = 20;
+
 pub const BRICK_LIMIT: u64 = 16384;
 
 pub const SHORTEST_TEXT: u32 = 5;
@@ -41,19 +44,21 @@ pub struct Level {
     pub crossline: u64,
 }
 
+// A cube's sizes and brick sides, with which no count, sum or product wraps.
+#[derive(Clone, Copy)]
+pub struct Volume {
+    pub size: [u32; 3],
+    pub side: [u32; 3],
+    pub ghost sizes: { Sizes size side },
+}
+
 // Whether n is 2^e for an e from `least` to the greatest exponent: n's zeros are the only e that it can be.
 pub fn power_in(least: u32, n: u32) -> bool
     requires { least ≤ greatest_exponent }
     ensures { result ≡ power_in least n }
 {
-    let e = u32::trailing_zeros(n);
-    if e < least {
-        return false;
-    }
-    if GREATEST_EXPONENT < e {
-        return false;
-    }
-    n == 1 << e
+    let e = n.trailing_zeros();
+    (least..=GREATEST_EXPONENT).contains(&e) && n == 1 << e
 }
 
 // n / d, rounded up.
@@ -61,7 +66,7 @@ pub fn ceil_div(n: u64, d: u64) -> u64
     requires { (0 < d) × (n + d ≤ 18446744073709551615) }
     ensures { result ≡ ceil_div n d }
 {
-    (n + (d - 1)) / d
+    n.div_ceil(d)
 }
 
 // n / 2^k, rounded up, by one shift and one sum. Of n samples the last is number n - 1, and it lies in part (n - 1) / 2^k, both counted
@@ -91,69 +96,67 @@ fn count_at(size: u32, side: u32, l: u64) -> u64
     ceil_shift(size as u64, u64::trailing_zeros(side as u64) as u64 + l)
 }
 
-// The alpha tiles of a level: one for each column of bricks.
-fn alphas_at(size: [u32; 3], side: [u32; 3], l: u64) -> u64
-    requires { Sizes size side × (l ≤ level_cap) }
-    ensures { result ≡ alphas_in size side l }
-{
-    count_at(size[0], side[0], l) * count_at(size[1], side[1], l)
-}
+impl Volume {
+    // The alpha tiles of a level: one for each column of bricks.
+    fn alphas_at(self, l: u64) -> u64
+        requires { l ≤ level_cap }
+        ensures { result ≡ alphas_in self.size self.side l }
+    {
+        count_at(self.size[0], self.side[0], l) * count_at(self.size[1], self.side[1], l)
+    }
 
-// The bricks of a level.
-fn bricks_at(size: [u32; 3], side: [u32; 3], l: u64) -> u64
-    requires { Sizes size side × (l ≤ level_cap) }
-    ensures { result ≡ bricks_in size side l }
-{
-    alphas_at(size, side, l) * count_at(size[2], side[2], l)
-}
+    // The bricks of a level.
+    fn bricks_at(self, l: u64) -> u64
+        requires { l ≤ level_cap }
+        ensures { result ≡ bricks_in self.size self.side l }
+    {
+        self.alphas_at(l) * count_at(self.size[2], self.side[2], l)
+    }
 
-// The shape of a cube with these sizes and brick sides. Its levels go to the first with one brick.
-pub fn shape_of(size: [u32; 3], side: [u32; 3]) -> Shape
-    requires { Sizes size side }
-    ensures { result ≡ shape_in size side }
-{
-    let mut levels = 0;
-    let mut bricks = 0;
-    let mut alphas = 0;
-    loop {
-        let here = bricks_at(size, side, levels);
-        bricks += here;
-        alphas += alphas_at(size, side, levels);
-        levels += 1;
-        if here == 1 {
-            return Shape {
-                levels,
-                bricks,
-                alphas,
-            };
+    // The bricks of the levels below n.
+    fn bricks_below(self, n: u64) -> u64
+        requires { n ≤ level_cap + 1 }
+        ensures { result ≡ sum_to (bricks_in self.size self.side) n }
+    {
+        let mut sum = 0;
+        for l in 0..n {
+            sum += self.bricks_at(l);
         }
+        sum
     }
-}
 
-// The bricks of the levels below n.
-fn bricks_below(size: [u32; 3], side: [u32; 3], n: u64) -> u64
-    requires { Sizes size side × (n ≤ level_cap + 1) }
-    ensures { result ≡ sum_to (bricks_in size side) n }
-{
-    let mut sum = 0;
-    let mut l = 0;
-    while l < n {
-        sum += bricks_at(size, side, l);
-        l += 1;
+    // Its levels go to the first with one brick.
+    pub fn shape(self) -> Shape
+        ensures { result ≡ shape_in self.size self.side }
+    {
+        let mut bricks = 0;
+        let mut alphas = 0;
+        for l in 0..LEVEL_CAP {
+            let here = self.bricks_at(l);
+            bricks += here;
+            alphas += self.alphas_at(l);
+            if here == 1 {
+                return Shape {
+                    levels: l + 1,
+                    bricks,
+                    alphas,
+                };
+            }
+        }
+        unreachable!()
     }
-    sum
-}
 
-// Level l of a cube that has `total` bricks in all. The highest level's entries come first, so those before level l are
-// all but the entries of the levels up to l.
-pub fn level_of(size: [u32; 3], side: [u32; 3], total: u64, l: u64) -> Level
-    requires { Sizes size side × (l < (shape_in size side).levels) × (total ≡ (shape_in size side).bricks) }
-    ensures { result ≡ level_at size side l }
-{
-    Level {
-        base: total - bricks_below(size, side, l + 1),
-        inline: count_at(size[0], side[0], l),
-        crossline: count_at(size[1], side[1], l),
+    // Level l of a cube that has `total` bricks in all. The highest level's entries come first, so those before level l are
+    // all but the entries of the levels up to l.
+    pub fn level(self, total: u64, l: u64) -> Level
+        requires { (l < (shape_in self.size self.side).levels) × (total ≡ (shape_in self.size self.side).bricks) }
+        ensures { result ≡ level_at self.size self.side l }
+    {
+        Level {
+            base: total - self.bricks_below(l + 1),
+            inline: count_at(self.size[0], self.side[0], l),
+            crossline: count_at(self.size[1], self.side[1], l),
+        }
     }
 }
 

@@ -92,7 +92,9 @@ pub next_multiple : (h s r : ℕ) → 0 < s → h ≤ r → r < h + s → r % s 
 next_multiple h s r pos low high e =
     let m = multiple h s _ pos refl in
     let whole : r ≡ r / s * s = omega (arith, div-add-mod' r s) in
-    let q : r / s ≡ ceil_div h s = omega (arith, multiple_le h s (r / s) (ceil_div h s) m.low (omega arith), multiple_le h s (ceil_div h s) (r / s) (omega arith) m.high) in
+    let most = multiple_le h s (r / s) (ceil_div h s) m.low (omega arith) in
+    let least = multiple_le h s (ceil_div h s) (r / s) (omega arith) m.high in
+    let q : r / s ≡ ceil_div h s = omega (arith, most, least) in
     whole ∙ ap (λ (n : ℕ). n * s) q
 
 pub all-bytes : (b s : ℕ) → b ≤ brick_limit → s ≤ bytes_room → b * s ≤ brick_limit * bytes_room
@@ -109,7 +111,8 @@ pub record Numbers (d : Description) (t a b h s : ℕ) : Type 0 where
   pub s_pos : 0 < s
   pub s_few : s ≤ bytes_room
 
-pub numbers : (d : Description) (t : ℕ) → described d t ≡ Taken → (a b h s : ℕ) → a ≡ alphas_of d → b ≡ bricks_of d → h ≡ header_end t a b → s ≡ brick_bytes_of d → Numbers d t a b h s
+pub numbers : (d : Description) (t : ℕ) → described d t ≡ Taken → (a b h s : ℕ)
+    → a ≡ alphas_of d → b ≡ bricks_of d → h ≡ header_end t a b → s ≡ brick_bytes_of d → Numbers d t a b h s
 unfolding header_of
 numbers d t taken a b h s ea eb eh es =
     let header : h ≡ header_of d t = eh ∙ rw (ea, eb) in
@@ -125,13 +128,15 @@ numbers d t taken a b h s ea eb eh es =
     }
 
 module _ (d : Description) (t a b h s : ℕ) (n : Numbers d t a b h s) (fill : Fill) where
-  pub plan_constant : fill ≡ Constant → ◌≡◌ {A = Plan} (record { alphas = a; bricks = b; first = 9223372036854775808; step = 0; after = 0; length = h }) (plan_of d t fill)
+  pub plan_constant : fill ≡ Constant
+      → ◌≡◌ {A = Plan} (record { alphas = a; bricks = b; first = 9223372036854775808; step = 0; after = 0; length = h }) (plan_of d t fill)
   unfolding plan_of made_length
   plan_constant f =
       let e : header_of d t + 0 ≡ header_of d t = omega arith in
       simp (f, n.alphas_are, n.bricks_are, n.header_is, e)
 
-  pub plan_stored : (q : ℕ) → q ≡ ceil_div h s * s → fill ≡ Stored → ◌≡◌ {A = Plan} (record { alphas = a; bricks = b; first = q; step = s; after = q - h + b * s; length = h + (q - h + b * s) }) (plan_of d t fill)
+  pub plan_stored : (q : ℕ) → q ≡ ceil_div h s * s → fill ≡ Stored
+      → ◌≡◌ {A = Plan} (record { alphas = a; bricks = b; first = q; step = s; after = q - h + b * s; length = h + (q - h + b * s) }) (plan_of d t fill)
   unfolding plan_of made_length first_brick
   plan_stored q e f = simp (f, e, n.alphas_are, n.bricks_are, n.header_is, n.brick-is)
 

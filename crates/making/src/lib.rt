@@ -55,7 +55,7 @@ fn push_u32(out: &mut Writer, n: u32)
     out.push_bytes(&n.to_le_bytes());
 }
 
-// A number of 64 bits, the lowest byte first.
+// A number of 64 bits, the same way. One generic function would need a trait of our own for `to_le_bytes`, longer than both.
 fn push_u64(out: &mut Writer, n: u64)
     ensures { Writes out.old (lows 8 n) out.new }
 {

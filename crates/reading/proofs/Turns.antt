@@ -1,6 +1,6 @@
 -- What a turn reads: items of one brick, which are a row's bytes, or those of whole columns, and come back as a box. Assumes nothing.
 use Prim.Native.Nat.{ℕ, zero, suc, ◌+◌, ◌*◌, ◌-◌, ◌≤◌, ◌<◌}
-use mathlib.Core.Path.{◌≡◌, sym, ap, ◌∙◌}
+use mathlib.Core.Path.{◌≡◌, refl, sym, ap, ◌∙◌}
 use mathlib.Core.List.{List, ◌++◌}
 use mathlib.Core.Logic.{⊎_elim}
 use native.Mathlib.Omega.{arith}
@@ -23,10 +23,11 @@ use Rattle.cube.proofs.Rows.{row_width}
 use Rattle.cube.proofs.Runs.{run_missing, run_constant, run_read}
 use Rattle.runs.specs.declared.Lattice.{Lattice}
 use Rattle.runs.specs.Runs.{Ready}
-use Rattle.runs.proofs.Boxes.{boxed_run, boxed_rows}
-use Rattle.runs.proofs.Steps.{ready_fit, ready-missing, counts, width_of}
+use Rattle.runs.specs.Boxes.{Rows, Block}
+use Rattle.runs.proofs.Boxes.{boxed_more0, boxed_more1, boxed_run, boxed_rows}
+use Rattle.runs.proofs.Steps.{ready_fit, ready-width, ready-missing, counts, width_of}
 use Rattle.reading.specs.Items.{items_of, RawBox}
-use Rattle.runs.proofs.Rows.{Spot, along_in, Rows, rows-ends, rows_spot, row_of, all_run, top, columns_ends, columns_spot}
+use Rattle.runs.proofs.Rows.{Spot, along_in, rows-small, rows-ends, rows_spot, inline_at, row_of, all_run, top, columns_ends, columns_spot}
 
 -- ---- the items of one brick
 
@@ -122,3 +123,35 @@ module _ {r : Record} {f : List ℕ} {g : Region} {q : Lattice} {κ : Kind} {m i
         rw (top h whole all, n)
         (boxed_rows i j nj s e d ys (sample-bytes h.ready) size h.in_i h.in_j.within (es ∙ rw ((counts r f g q h.ready).1, n, ew) (omega arith)) (ee ∙ rw (n, ew))
         (y ∙ rw ew (sym (items-join f (item_bytes r) q.missing.value κ m nk nj) ∙ cat-same nj _ _ column_bytes)))
+
+-- ---- a turn of the loops over rows and over inlines: w is the lattice's width, d the buffer
+
+module _ {r : Record} {f : List ℕ} {g : Region} {q : Lattice} {κ : Kind} {m i j k nj nk w : ℕ} (h : Rows r f g q κ m i j k nj nk) (ew : w ≡ q.width) where
+  pub wide : w ≡ item_bytes r
+  wide = ew ∙ ready-width r f g q h.ready
+
+  pub turn_asks : {t : ℕ} → t < nj → Width w × ((o : ℕ) → κ ≡ Stored o → o + (m + t * q.side2 + nk) * w ≤ length f)
+  turn_asks l = row_asks (row_of h l) wide
+
+  pub turn_at : {t room : ℕ} → room ≡ size_of g * item_bytes r → t < nj → Bytes q.count1 q.count2 i (j + t) k nk w room
+  turn_at {t} {room} size l = row_at (row_of h l) wide room size
+
+  pub turn_small : {t : ℕ} → t < nj → m + t * q.side2 < 16777216
+  turn_small l = rows-small (row_of h l)
+
+  pub turn_box : {t : ℕ} {d d' ys : List ℕ} → length d ≡ size_of g * item_bytes r → RawBox r f g i 1 j t k nk d d' → t < nj
+      → ys ≡ items_of f w q.missing.value κ (m + t * q.side2) nk
+      → (let s : ℕ = ((i * q.count1 + (j + t)) * q.count2 + k) * w in RawBox r f g i 1 j (t + 1) k nk d (put_mid s (s + nk * w - s) d' ys))
+  turn_box size b l y = boxed_more1 b (row_box (row_of h l) wide _ _ _ _ (b.size ∙ size) refl refl y)
+
+module _ {r : Record} {f : List ℕ} {g : Region} {q : Lattice} {κ : Kind} {m i ni j nj k nk w : ℕ} (h : Block r f g q κ m i ni j nj k nk) (ew : w ≡ q.width) where
+  pub line_asks : {t : ℕ} → t < ni → Width w × ((o : ℕ) → κ ≡ Stored o → o + (m + t * (q.side1 * q.side2) + nk) * w ≤ length f)
+  line_asks l = row_asks (inline_at h l) (wide (inline_at h l) ew)
+
+  pub line_at : {t room : ℕ} → room ≡ size_of g * item_bytes r → t < ni → Bytes q.count1 q.count2 (i + t) j k nk w room
+  line_at {t} {room} size l = row_at (inline_at h l) (wide (inline_at h l) ew) room size
+
+  pub line_box : {t : ℕ} {d d' ys : List ℕ} → length d ≡ size_of g * item_bytes r → RawBox r f g i t j 1 k nk d d' → t < ni
+      → ys ≡ items_of f w q.missing.value κ (m + t * (q.side1 * q.side2)) nk
+      → (let s : ℕ = (((i + t) * q.count1 + j) * q.count2 + k) * w in RawBox r f g i (t + 1) j 1 k nk d (put_mid s (s + nk * w - s) d' ys))
+  line_box size b l y = boxed_more0 b (row_box (inline_at h l) (wide (inline_at h l) ew) _ _ _ _ (b.size ∙ size) refl refl y)

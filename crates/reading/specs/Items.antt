@@ -16,7 +16,11 @@ items_of f w missing Missing m n = cat n (λ t. lows w missing)
 items_of f w missing (Constant v) m n = cat n (λ t. lows w v)
 items_of f w missing (Stored o) m n = peek f (o + m * w) (n * w)
 
+-- the bytes of a region's sample, by how far it is past the region's start
+abbrev pub raw_at : Record → List ℕ → Region → ℕ → ℕ → ℕ → List ℕ
+raw_at r f g x y z = raw_of r (rows_of r f (place g x y z))
+
 -- new is old, but that a box of the region holds its samples' bytes
 abbrev pub RawBox : Record → List ℕ → Region → ℕ → ℕ → ℕ → ℕ → ℕ → ℕ → List ℕ → List ℕ → Type 0
 RawBox r f g i ni j nj k nk old new =
-    Boxed (item_bytes r) (run_of g 0) (run_of g 1) (run_of g 2) (λ x y z. raw_of r (rows_of r f (place g x y z))) i ni j nj k nk old new
+    Boxed (item_bytes r) (run_of g 0) (run_of g 1) (run_of g 2) (raw_at r f g) i ni j nj k nk old new

@@ -9,18 +9,19 @@ ghost use Rattle.endian.specs.Bytes.{lows};
 ghost use Rattle.table.specs.Entries.{Width};
 ghost use Rattle.table.specs.declared.Kind.TheVariants.{Stored};
 ghost use Rattle.record.specs.Answers.{Taken};
-ghost use Rattle.cube.specs.Places.{item_bytes, rows_of, kind_in, brick_of, item_no};
+ghost use Rattle.cube.specs.Places.{item_bytes, rows_of};
 ghost use Rattle.cube.specs.Calls.{raw_read, raw, answer_of, buffers_after};
-ghost use Rattle.cube.specs.Regions.{run_of, place, size_of, raw_rows, raw_verdict, over};
-ghost use Rattle.runs.specs.Runs.{Ready};
-ghost use Rattle.runs.specs.Boxes.{Along};
-ghost use Rattle.reading.specs.Items.{items_of, RawBox};
+ghost use Rattle.cube.specs.Regions.{size_of, raw_rows, raw_verdict, over};
+ghost use Rattle.runs.specs.Views.{only, IsCorner, IsRowCorner, Roomy, Filled};
+ghost use Rattle.reading.specs.Items.{items_of, raw_at};
 
 use cube::{MissingBrick, Region};
 use endian::copy;
 use record::{Record, Refusal};
 use regions::raw_verdict;
-use runs::{Lattice, at_once, index, item_on, kind_on, lattice_of, left};
+use runs::site::{BrickBox, Corner, Site, Span, View};
+use runs::walk::{Reader, read_bricks};
+use runs::{index, lattice_of};
 use table::Kind;
 
 // The low w bytes of a value, the lowest first.
@@ -87,242 +88,115 @@ fn read_items(
     }
 }
 
-// The rows of a box on one inline: nj vertical runs of nk samples, from i, j, k past the region's start on, which is this item of
-// a brick of this kind.
-fn read_rows(
-    out: &mut [u8],
-    file: &[u8],
-    r: Record,
-    g: Region,
-    q: Lattice,
-    kind: Kind,
-    item: usize,
-    i: usize,
-    j: usize,
-    k: usize,
-    nj: usize,
-    nk: usize,
-)
-    requires ready { Ready r file.now g q × (length out.old ≡ size_of g * item_bytes r) }
-    requires i_bound { (i < run_of g 0) × Along r g 1 j nj × Along r g 2 k nk }
-    requires kind_value { (kind ≡ kind_in r file.now (brick_of r (place g i j k))) × (item ≡ item_no r (place g i j k)) }
-    ensures { RawBox r file.now g i 1 j nj k nk out.old out.new }
+// The rows of a box on one inline.
+fn read_rows(out: &mut [u8], v: &View, corner: Corner, i: usize, j: Span, k: Span)
+    requires room { Roomy item_bytes v.now out.old }
+    requires rows { IsRowCorner v.now corner i j k }
+    ensures { Filled item_bytes raw_at v.now (only i) j k out.old out.new }
 {
+    let q = v.site.lattice;
     let w = index(q.width);
-    for t in 0..nj {
-        let a = ((i * q.count1 + (j + t)) * q.count2 + k) * w;
-        let e = a + nk * w;
+    for t in 0..j.n {
+        let a = ((i * q.count1 + (j.at + t)) * q.count2 + k.at) * w;
+        let e = a + k.n * w;
         read_items(
             &mut out[a..e],
-            file,
+            v.file,
             q.missing,
-            kind,
-            item + t * q.side2,
-            nk,
+            corner.kind,
+            corner.item + t * q.side2,
+            k.n,
             w,
         );
     }
 }
 
 // The same. Whole columns of a brick that are the region's whole columns stand one after the other in both, and are one run.
-fn read_plane(
-    out: &mut [u8],
-    file: &[u8],
-    r: Record,
-    g: Region,
-    q: Lattice,
-    kind: Kind,
-    item: usize,
-    i: usize,
-    j: usize,
-    k: usize,
-    nj: usize,
-    nk: usize,
-)
-    requires ready { Ready r file.now g q × (length out.old ≡ size_of g * item_bytes r) }
-    requires i_bound { (i < run_of g 0) × Along r g 1 j nj × Along r g 2 k nk }
-    requires kind_value { (kind ≡ kind_in r file.now (brick_of r (place g i j k))) × (item ≡ item_no r (place g i j k)) }
-    ensures { RawBox r file.now g i 1 j nj k nk out.old out.new }
+fn read_plane(out: &mut [u8], v: &View, corner: Corner, i: usize, j: Span, k: Span)
+    requires room { Roomy item_bytes v.now out.old }
+    requires rows { IsRowCorner v.now corner i j k }
+    ensures { Filled item_bytes raw_at v.now (only i) j k out.old out.new }
 {
-    if nk == q.side2 && nk == q.count2 {
+    let q = v.site.lattice;
+    if k.n == q.side2 && k.n == q.count2 {
         let w = index(q.width);
-        let n = nj * nk;
-        let a = (i * q.count1 + j) * nk * w;
+        let n = j.n * k.n;
+        let a = (i * q.count1 + j.at) * k.n * w;
         let e = a + n * w;
-        read_items(&mut out[a..e], file, q.missing, kind, item, n, w);
+        read_items(
+            &mut out[a..e],
+            v.file,
+            q.missing,
+            corner.kind,
+            corner.item,
+            n,
+            w,
+        );
     } else {
-        read_rows(out, file, r, g, q, kind, item, i, j, k, nj, nk);
+        read_rows(out, v, corner, i, j, k);
     }
 }
 
-// The inlines of a box: ni x nj x nk samples, from i, j, k past the region's start on, which is this item of a brick of this kind.
-fn read_planes(
-    out: &mut [u8],
-    file: &[u8],
-    r: Record,
-    g: Region,
-    q: Lattice,
-    kind: Kind,
-    item: usize,
-    i: usize,
-    j: usize,
-    k: usize,
-    ni: usize,
-    nj: usize,
-    nk: usize,
-)
-    requires ready { Ready r file.now g q × (length out.old ≡ size_of g * item_bytes r) }
-    requires along { Along r g 0 i ni × Along r g 1 j nj × Along r g 2 k nk }
-    requires kind_value { (kind ≡ kind_in r file.now (brick_of r (place g i j k))) × (item ≡ item_no r (place g i j k)) }
-    ensures { RawBox r file.now g i ni j nj k nk out.old out.new }
+// The inlines of a box.
+fn read_planes(out: &mut [u8], v: &View, corner: Corner, b: BrickBox)
+    requires room { Roomy item_bytes v.now out.old }
+    requires corner { IsCorner v.now corner b }
+    ensures { Filled item_bytes raw_at v.now b.i b.j b.k out.old out.new }
 {
+    let q = v.site.lattice;
     let plane = q.side1 * q.side2;
-    for t in 0..ni {
-        let m = item + t * plane;
-        read_plane(out, file, r, g, q, kind, m, i + t, j, k, nj, nk);
+    for t in 0..b.i.n {
+        let on = Corner {
+            kind: corner.kind,
+            item: corner.item + t * plane,
+        };
+        read_plane(out, v, on, b.i.at + t, b.j, b.k);
     }
 }
 
 // The same where each inline has one row, as in a crossline section: a loop over rows for each would cost more than the row.
-fn read_lines(
-    out: &mut [u8],
-    file: &[u8],
-    r: Record,
-    g: Region,
-    q: Lattice,
-    kind: Kind,
-    item: usize,
-    i: usize,
-    j: usize,
-    k: usize,
-    ni: usize,
-    nk: usize,
-)
-    requires ready { Ready r file.now g q × (length out.old ≡ size_of g * item_bytes r) }
-    requires along { Along r g 0 i ni × Along r g 1 j 1 × Along r g 2 k nk }
-    requires kind_value { (kind ≡ kind_in r file.now (brick_of r (place g i j k))) × (item ≡ item_no r (place g i j k)) }
-    ensures { RawBox r file.now g i ni j 1 k nk out.old out.new }
+fn read_lines(out: &mut [u8], v: &View, corner: Corner, b: BrickBox)
+    requires room { Roomy item_bytes v.now out.old }
+    requires corner { IsCorner v.now corner b × (b.j.n ≡ 1) }
+    ensures { Filled item_bytes raw_at v.now b.i b.j b.k out.old out.new }
 {
+    let q = v.site.lattice;
     let w = index(q.width);
     let plane = q.side1 * q.side2;
-    for t in 0..ni {
-        let a = (((i + t) * q.count1 + j) * q.count2 + k) * w;
-        let e = a + nk * w;
+    for t in 0..b.i.n {
+        let a = (((b.i.at + t) * q.count1 + b.j.at) * q.count2 + b.k.at) * w;
+        let e = a + b.k.n * w;
         read_items(
             &mut out[a..e],
-            file,
+            v.file,
             q.missing,
-            kind,
-            item + t * plane,
-            nk,
+            corner.kind,
+            corner.item + t * plane,
+            b.k.n,
             w,
         );
     }
 }
 
-// A box of one brick: ni x nj x nk samples, from i, j, k past the region's start on.
-fn read_box(
-    out: &mut [u8],
-    file: &[u8],
-    r: Record,
-    g: Region,
-    q: Lattice,
-    i: usize,
-    j: usize,
-    k: usize,
-    ni: usize,
-    nj: usize,
-    nk: usize,
-)
-    requires ready { Ready r file.now g q × (length out.old ≡ size_of g * item_bytes r) }
-    requires along { Along r g 0 i ni × Along r g 1 j nj × Along r g 2 k nk }
-    ensures { RawBox r file.now g i ni j nj k nk out.old out.new }
-{
-    let kind = kind_on(file, r, g, q, i, j, k);
-    let item = item_on(r, g, q, i, j, k);
-    if nj == 1 {
-        read_lines(out, file, r, g, q, kind, item, i, j, k, ni, nk);
-    } else {
-        read_planes(out, file, r, g, q, kind, item, i, j, k, ni, nj, nk);
-    }
-}
+// Samples as their items' bytes.
+struct Raw;
 
-// The boxes of the bricks one above the other.
-fn read_boxes(
-    out: &mut [u8],
-    file: &[u8],
-    r: Record,
-    g: Region,
-    q: Lattice,
-    i: usize,
-    j: usize,
-    ni: usize,
-    nj: usize,
-)
-    requires ready { Ready r file.now g q × (length out.old ≡ size_of g * item_bytes r) }
-    requires along { Along r g 0 i ni × Along r g 1 j nj }
-    ensures { RawBox r file.now g i ni j nj 0 (run_of g 2) out.old out.new }
-{
-    let n = q.count2;
-    let mut k = 0;
-    while k < n {
-        let nk = left(q.start2, k, q.side2, n - k);
-        read_box(out, file, r, g, q, i, j, k, ni, nj, nk);
-        k += nk;
-    }
-}
+impl Reader for Raw {
+    type Element = u8;
 
-// The bricks one above the other, some inlines at once.
-fn read_column(
-    out: &mut [u8],
-    file: &[u8],
-    r: Record,
-    g: Region,
-    q: Lattice,
-    i: usize,
-    j: usize,
-    ni: usize,
-    nj: usize,
-)
-    requires ready { Ready r file.now g q × (length out.old ≡ size_of g * item_bytes r) }
-    requires along { Along r g 0 i ni × Along r g 1 j nj }
-    ensures { RawBox r file.now g i ni j nj 0 (run_of g 2) out.old out.new }
-{
-    let mut t = 0;
-    while t < ni {
-        let c = at_once(nj, ni - t);
-        read_boxes(out, file, r, g, q, i + t, j, c, nj);
-        t += c;
-    }
-}
+    ghost width = { item_bytes };
 
-// The columns of the bricks side by side along the crosslines.
-fn read_columns(out: &mut [u8], file: &[u8], r: Record, g: Region, q: Lattice, i: usize, ni: usize)
-    requires ready { Ready r file.now g q × (length out.old ≡ size_of g * item_bytes r) }
-    requires along { Along r g 0 i ni × (0 < run_of g 2) }
-    ensures { RawBox r file.now g i ni 0 (run_of g 1) 0 (run_of g 2) out.old out.new }
-{
-    let n = q.count1;
-    let mut j = 0;
-    while j < n {
-        let nj = left(q.start1, j, q.side1, n - j);
-        read_column(out, file, r, g, q, i, j, ni, nj);
-        j += nj;
-    }
-}
+    ghost sample = { raw_at };
 
-// All bricks that the region touches.
-fn read_bricks(out: &mut [u8], file: &[u8], r: Record, g: Region, q: Lattice)
-    requires ready { Ready r file.now g q × (length out.old ≡ size_of g * item_bytes r) }
-    requires nonzero { (0 < run_of g 1) × (0 < run_of g 2) }
-    ensures { out.new ≡ raw_rows r (rows_of r file.now) g }
-{
-    let n = q.count0;
-    let mut i = 0;
-    while i < n {
-        let ni = left(q.start0, i, q.side0, n - i);
-        read_columns(out, file, r, g, q, i, ni);
-        i += ni;
+    ghost fits = { λ _ _. Unit {0} };
+
+    fn read_box(&self, out: &mut [u8], v: &View, b: BrickBox) {
+        let corner = v.corner(b);
+        if b.j.n == 1 {
+            read_lines(out, v, corner, b);
+        } else {
+            read_planes(out, v, corner, b);
+        }
     }
 }
 
@@ -334,7 +208,12 @@ fn read_region(out: &mut [u8], file: &[u8], r: Record, g: Region) -> usize
 {
     let q = lattice_of(r, g);
     let n = q.count0 * (q.count1 * (q.count2 * index(q.width)));
-    read_bricks(&mut out[..n], file, r, g, q);
+    let site = Site {
+        record: &r,
+        region: &g,
+        lattice: q,
+    };
+    read_bricks(&mut out[..n], &View { site, file }, &Raw);
     n
 }
 

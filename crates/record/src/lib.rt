@@ -11,7 +11,7 @@ ghost use Rattle.record.specs.Record.{count_of, bricks_of, brick_bytes_of, float
 
 use endian::{u8_at, u32_at, u64_at};
 use floats::float_of;
-use geometry::{Shape, brick_bytes, header_end, shape_of};
+use geometry::{Shape, Volume, brick_bytes, header_end};
 
 // Why a call is not carried out, as the sentence of the table for its number. It has the lowest such entry where one brick is to blame.
 #[derive(Clone, Copy, PartialEq, Eq)]
@@ -273,7 +273,9 @@ pub fn shape_in(d: Description) -> Shape
     requires { Sized d }
     ensures { result ≡ shape_of (count_of d 0) (count_of d 1) (count_of d 2) }
 {
-    shape_of(d.size, d.side)
+    let size = d.size;
+    let side = d.side;
+    Volume { size, side }.shape()
 }
 
 pub fn brick_bytes_in(d: Description) -> u64

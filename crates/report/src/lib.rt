@@ -83,7 +83,7 @@ fn kind_text(out: &mut Writer, datatype: u8, kind: Kind)
         Kind::Missing => out.push_bytes(b" missing"),
         Kind::Constant(value) => {
             out.push_bytes(b" constant ");
-            constant_text(out, datatype, value)
+            constant_text(out, datatype, value);
         }
         Kind::Stored(offset) => numbered(out, b" stored ", offset),
     }
@@ -105,9 +105,8 @@ fn cube_lines(out: &mut Writer, file: &[u8], r: Record)
 {
     let d = r.description;
     let t = table_in(r);
-    let count = t.count;
     header_lines(out, r);
-    for entry in 0..count {
+    for entry in 0..t.count {
         let kind = kind_at(file, t, entry);
         entry_line(out, entry, d.datatype, kind);
     }

@@ -6,3 +6,4 @@ pub mod Sizes
 pub mod Answers
 pub mod Boxes
 pub mod Rows
+pub mod Sites

@@ -17,7 +17,7 @@ use Rattle.cube.specs.Regions.{start_of, run_of, place, size_of}
 use Rattle.cube.proofs.Places.{sides}
 use Rattle.runs.specs.declared.Lattice.{Lattice}
 use Rattle.runs.specs.Runs.{lattice_of, Placed, Ready}
-use Rattle.runs.specs.Boxes.{Along}
+use Rattle.runs.specs.Boxes.{Along, Rows, Block}
 use Rattle.runs.proofs.Lattices.{Numbers, numbers, item_made}
 use Rattle.runs.proofs.Steps.{ready_fit, placed, counts}
 use Rattle.runs.proofs.Boxes.{run_room, rows-room, along, inline-brick, inline-item, row_brick, row_item, row_fits, rows_fit}
@@ -84,15 +84,6 @@ along_part r g d at n t c a some l =
     record { some = some; within = omega (arith, a.within); brick = rw (e, digits_mod (x / s) h) (omega (arith, a.brick)) }
 
 -- ---- the rows on one inline
-
--- nj rows of nk samples, from i, j, k past the region's start on, which is item m of a brick of kind κ
-pub record Rows (r : Record) (f : List ℕ) (g : Region) (q : Lattice) (κ : Kind) (m i j k nj nk : ℕ) : Type 0 where
-  pub ready : Ready r f g q
-  pub in_i : i < run_of g 0
-  pub in_j : Along r g 1 j nj
-  pub in_k : Along r g 2 k nk
-  pub kind : κ ≡ kind_in r f (brick_of r (place g i j k))
-  pub item : m ≡ item_no r (place g i j k)
 
 module _ {r : Record} {f : List ℕ} {g : Region} {q : Lattice} {κ : Kind} {m i j k nj nk : ℕ} (h : Rows r f g q κ m i j k nj nk) where
   rows_placed : Placed r g q i j k
@@ -165,16 +156,10 @@ module _ {r : Record} {f : List ℕ} {g : Region} {q : Lattice} (ready : Ready r
         item = rw (item, (sides_are ready).1, (sides_are ready).2) (sym (inline-item r g i j k t ni ai l));
       }
 
--- ni rows of nk samples, one on each inline, from i, j, k past the region's start on, which is item m of a brick of kind κ
-pub record Lines (r : Record) (f : List ℕ) (g : Region) (q : Lattice) (κ : Kind) (m i j k ni nk : ℕ) : Type 0 where
-  pub ready : Ready r f g q
-  pub in_i : Along r g 0 i ni
-  pub in_j : Along r g 1 j 1
-  pub in_k : Along r g 2 k nk
-  pub kind : κ ≡ kind_in r f (brick_of r (place g i j k))
-  pub item : m ≡ item_no r (place g i j k)
+-- the t-th inline
+pub inline_at : {r : Record} {f : List ℕ} {g : Region} {q : Lattice} {κ : Kind} {m i ni j nj k nk t : ℕ} → Block r f g q κ m i ni j nj k nk → t < ni
+    → Rows r f g q κ (m + t * (q.side1 * q.side2)) (i + t) j k nj nk
+inline_at h l = inline_of h.ready h.in_i h.in_j h.in_k h.kind h.item l
 
--- the t-th of them
-pub line_of : {r : Record} {f : List ℕ} {g : Region} {q : Lattice} {κ : Kind} {m i j k ni nk t : ℕ} → Lines r f g q κ m i j k ni nk → t < ni
-    → Rows r f g q κ (m + t * (q.side1 * q.side2)) (i + t) j k 1 nk
-line_of h l = inline_of h.ready h.in_i h.in_j h.in_k h.kind h.item l
+pub inline-small : {r : Record} {f : List ℕ} {g : Region} {q : Lattice} {κ : Kind} {m i ni j nj k nk t : ℕ} → Block r f g q κ m i ni j nj k nk → t < ni → m + t * (q.side1 * q.side2) < 16777216
+inline-small h l = rows-small (inline_at h l)

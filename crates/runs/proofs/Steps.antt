@@ -21,7 +21,7 @@ use Rattle.cube.proofs.Places.{sides, brick-lt}
 use Rattle.cube.proofs.Regions.{Passed, touched_fits, all-inside}
 use Rattle.cube.proofs.Writes.{Kept, kept_kind}
 use Rattle.runs.specs.declared.Lattice.{Lattice}
-use Rattle.runs.specs.Runs.{lattice_of, Allowed, Placed, Ready}
+use Rattle.runs.specs.Runs.{lattice_of, Allowed, Placed, Ready, Laid}
 
 -- ---- from the verdict to the loops
 
@@ -46,6 +46,17 @@ module _ (r : Record) (f : List ℕ) (g : Region) (room need : ℕ) (h : Passed 
             );
         inside = all-inside r f g room need h;
         ends = λ i j k hi hj hk o s. let t = touched_fits r f g room need h i j k hi hj hk o s in record { low = t.0; high = t.1 };
+      }
+
+  pub laid : (q : Lattice) → q ≡ lattice_of r g → Laid r g q
+  laid q e =
+      let a = ready q e in
+      record {
+        laid = e;
+        fitting = a.fitting;
+        some = record { inline = omega (arith, h.region.run0); crossline = omega (arith, h.region.run1); vertical = omega (arith, h.region.run2) };
+        few = a.few;
+        inside = a.inside;
       }
 
 module _ (r : Record) (f : List ℕ) (g : Region) (q : Lattice) (h : Ready r f g q) where

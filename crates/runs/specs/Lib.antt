@@ -1,3 +1,4 @@
 -- The definitions that the contracts of runs cite.
 pub mod Runs
 pub mod Boxes
+pub mod Views

@@ -1,18 +1,19 @@
-// Vertical runs: where the samples of a region lie in the bricks of its level. Raw reads, float reads and writes share this.
-// A record and a region that stand beside a lattice are what its promises are stated in; the code works with the lattice alone.
+// Where the samples of a region lie in the bricks of its level, and the walk of a read over these bricks. Raw reads, float reads and
+// writes share this.
 #![tactic(auto)]
 
-ghost use Rattle.std.specs.Prelude.{◌≡◌, true, ◌+◌, ◌-◌, ◌/◌, ◌%◌, ◌<◌, ◌≤◌, min, length};
+ghost use Rattle.std.specs.Prelude.{◌≡◌, true, ◌+◌, ◌-◌, ◌/◌, ◌%◌, ◌<◌, ◌≤◌, min};
 ghost use Rattle.checks.specs.Checks.{side_ok};
-ghost use Rattle.record.specs.Record.{side_of, levels_of, bricks_of, Sized};
-ghost use Rattle.cube.specs.Places.{kind_in, brick_of, item_no};
-ghost use Rattle.cube.specs.Regions.{start_of, place};
-ghost use Rattle.runs.specs.Runs.{level_in, lattice_of, Allowed, Placed};
+ghost use Rattle.record.specs.Record.{levels_of, bricks_of, Sized};
+ghost use Rattle.runs.specs.Runs.{level_in, lattice_of, Allowed};
 
 use cube::{MissingBrick, Region, missing_brick};
-use geometry::{Level, entry_at, level_of};
+use geometry::{Level, Volume};
 use record::{Description, Record, width_of};
-use table::{Kind, Table, kind_at, table_in};
+use table::{Table, table_in};
+
+pub mod site;
+pub mod walk;
 
 // A region among the bricks of its level, worked out once for a call.
 #[derive(Clone, Copy)]
@@ -33,12 +34,6 @@ pub struct Lattice {
     pub count0: usize,
     pub count1: usize,
     pub count2: usize,
-}
-
-fn wide(x: u32) -> u64
-    ensures { (result ≡ x) × (result < 4294967296) }
-{
-    x as u64
 }
 
 pub fn index(x: u32) -> usize
@@ -62,7 +57,7 @@ pub fn level_in(d: Description, bricks: u32, level: u32) -> Level
 {
     let size = d.size;
     let side = d.side;
-    level_of(size, side, wide(bricks), wide(level))
+    Volume { size, side }.level(u64::from(bricks), u64::from(level))
 }
 
 // The lattice of a region.
@@ -71,24 +66,20 @@ pub fn lattice_of(r: Record, g: Region) -> Lattice
     ensures { result ≡ lattice_of r g }
 {
     let d = r.description;
-    let side = d.side;
-    let start = g.start;
-    let count = g.count;
-    let level = level_in(d, r.bricks, g.level);
     Lattice {
         table: table_in(r),
-        level,
-        side0: index(side[0]),
-        side1: index(side[1]),
-        side2: index(side[2]),
+        level: level_in(d, r.bricks, g.level),
+        side0: index(d.side[0]),
+        side1: index(d.side[1]),
+        side2: index(d.side[2]),
         width: width_of(d.datatype),
         missing: missing_brick(r),
-        start0: index(start[0]),
-        start1: index(start[1]),
-        start2: index(start[2]),
-        count0: index(count[0]),
-        count1: index(count[1]),
-        count2: index(count[2]),
+        start0: index(g.start[0]),
+        start1: index(g.start[1]),
+        start2: index(g.start[2]),
+        count0: index(g.count[0]),
+        count1: index(g.count[1]),
+        count2: index(g.count[2]),
     }
 }
 
@@ -100,44 +91,13 @@ fn beyond(x: usize, side: usize) -> usize
     x - over(x, side) * side
 }
 
-// The entry of the brick that holds a sample of the region.
-fn entry_on(r: Record, g: Region, q: Lattice, i: usize, j: usize, k: usize) -> usize
-    requires { Placed r g q i j k }
-    ensures { result ≡ brick_of r (place g i j k) }
-{
-    let x = over(q.start0 + i, q.side0);
-    let y = over(q.start1 + j, q.side1);
-    let z = over(q.start2 + k, q.side2);
-    entry_at(q.level, x as u64, y as u64, z as u64) as usize
-}
-
-// What the brick that holds a sample of the region is.
-pub fn kind_on(file: &[u8], r: Record, g: Region, q: Lattice, i: usize, j: usize, k: usize) -> Kind
-    requires placed { Placed r g q i j k }
-    requires length_value { r.length ≡ length file.now }
-    ensures { result ≡ kind_in r file.now (brick_of r (place g i j k)) }
-{
-    kind_at(file, q.table, entry_on(r, g, q, i, j, k))
-}
-
-// A sample's item number in its brick: vertical runs fastest.
-pub fn item_on(r: Record, g: Region, q: Lattice, i: usize, j: usize, k: usize) -> usize
-    requires { Placed r g q i j k }
-    ensures { result ≡ item_no r (place g i j k) }
-{
-    let x = beyond(q.start0 + i, q.side0);
-    let y = beyond(q.start1 + j, q.side1);
-    let z = beyond(q.start2 + k, q.side2);
-    (x * q.side1 + y) * q.side2 + z
-}
-
 // How many of the next n samples in a direction lie in the brick of the first, which is `at` past the region's start.
 pub fn left(start: usize, at: usize, side: usize, n: usize) -> usize
     requires { (side_ok side ≡ true) × (start + at < 4294967296) }
     ensures { result ≡ min (side - (start + at) % side) n }
 {
     let rest = side - beyond(start + at, side);
-    if rest < n { rest } else { n }
+    rest.min(n)
 }
 
 // How many of the next n inlines of a box a read takes at once: all where they have one row each, as in a crossline section, so that
@@ -147,12 +107,4 @@ pub fn at_once(rows: usize, n: usize) -> usize
     ensures { (0 < result) × (result ≤ n) }
 {
     if rows == 1 { n } else { 1 }
-}
-
-// How many of the next n samples of a vertical run lie in the brick of the first.
-pub fn span(r: Record, g: Region, q: Lattice, i: usize, j: usize, k: usize, n: usize) -> usize
-    requires { Placed r g q i j k }
-    ensures { result ≡ min (side_of r.description 2 - (start_of g 2 + k) % side_of r.description 2) n }
-{
-    left(q.start2, k, q.side2, n)
 }

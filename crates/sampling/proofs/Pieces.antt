@@ -6,7 +6,7 @@ use native.Mathlib.Omega.{arith}
 use native.Mathlib.Nat.{add-mul, mul-one, add-sub_cancel_left}
 use lib.Ieee.{Float}
 use lib.ListN.{length, take, drop}
-use borrow.Rule.Slice.PartMut.{put_mid}
+use borrow.Rule.Slice.PartMut.{put_mid, mid_of, mid_len}
 use Rattle.endian.specs.Loops.{cat}
 use Rattle.endian.specs.Bytes.{peek, le}
 use Rattle.endian.proofs.Digits.{next_item}
@@ -26,12 +26,12 @@ use Rattle.cube.specs.Regions.{place, size_of}
 use Rattle.cube.proofs.Runs.{float_missing, float_constant, float_read_lem}
 use Rattle.runs.specs.declared.Lattice.{Lattice}
 use Rattle.runs.specs.Runs.{Ready}
-use Rattle.runs.specs.Boxes.{Along}
+use Rattle.runs.specs.Boxes.{Along, Rows}
 use Rattle.runs.proofs.Steps.{ready_fit, ready-width, ready-missing, counts}
 use Rattle.runs.proofs.Boxes.{boxed_more1, boxed_run}
 use Rattle.sampling.specs.declared.Range.{Range}
 use Rattle.sampling.specs.Samples.{range_of, Fitting, floats_of, FloatBox}
-use Rattle.runs.proofs.Rows.{Rows, along_in}
+use Rattle.runs.proofs.Rows.{Spot, along_in, rows-small, rows-ends, rows_spot, row_of}
 
 -- ---- a part of a file
 
@@ -122,3 +122,26 @@ rows_more {r} {f} {g} {q} {κ} {m} {i} {j} {k} {t} {nk} {old} {new} {ys} a e c h
     (ea ∙ rw (n.1, n.2, mul-one))
     (ee ∙ rw mul-one)
     (made ∙ rw (ec, h.item) (row_floats r f g i (j + t) k nk h.in_k κ h.kind)))
+
+-- ---- a turn of the loop over rows: a buffer of floats has one element for each item
+
+-- a part that was lent of a buffer has its length
+pub lent : {A : Type 0} (a n : ℕ) (d : List A) → a + n ≤ length d → length (mid_of a (a + n - a) d) ≡ n
+lent a n d h = mid_len a (a + n) d h ∙ add-sub_cancel_left a n
+
+module _ {r : Record} {f : List ℕ} {g : Region} {q : Lattice} {κ : Kind} {m i j k nj nk : ℕ} (h : Rows r f g q κ m i j k nj nk) where
+  pub corner_constant : (v : ℕ) → κ ≡ Constant v → v < 256 ^ item_bytes r
+  corner_constant v e = constant_is r f g i j k v (sym h.kind ∙ e)
+
+  pub turn_at : {t room : ℕ} → room ≡ size_of g * 1 → t < nj → Spot q.count1 q.count2 i (j + t) k nk room
+  turn_at {t} {room} e l = let s : room ≡ size_of g = e ∙ mul-one (size_of g) in rw s (rows_spot (row_of h l))
+
+  pub turn_small : {t : ℕ} → t < nj → m + t * q.side2 < 16777216
+  turn_small l = rows-small (row_of h l)
+
+  pub turn_stored : {t : ℕ} → t < nj → (o : ℕ) → κ ≡ Stored o → o + (m + t * q.side2 + nk) * item_bytes r ≤ length f
+  turn_stored l = rows-ends (row_of h l)
+
+  pub turn_box : {t : ℕ} {d d' ys : List Float} → length d ≡ size_of g * 1 → FloatBox r f g i 1 j t k nk d d' → t < nj → (c : ℕ) → c ≡ nk → ys ≡ floats_of r f κ (m + t * q.side2) c
+      → (let s : ℕ = (i * q.count1 + (j + t)) * q.count2 + k in FloatBox r f g i 1 j (t + 1) k nk d (put_mid s (s + nk - s) d' ys))
+  turn_box size b l c ec y = rows_more _ _ c (row_of h l) (size ∙ mul-one (size_of g)) b refl refl ec y

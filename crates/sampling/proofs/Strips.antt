@@ -28,10 +28,10 @@ use Rattle.cube.specs.Places.{item_bytes, kind_in, brick_of, item_no, rows_of, f
 use Rattle.cube.specs.Regions.{run_of, place, size_of}
 use Rattle.runs.specs.declared.Lattice.{Lattice}
 use Rattle.runs.specs.Runs.{lattice_of, Ready}
-use Rattle.runs.specs.Boxes.{Along}
 use Rattle.runs.proofs.Steps.{ready_fit, counts}
 use Rattle.runs.proofs.Boxes.{rows-room, boxed_more0, boxed_rows}
-use Rattle.runs.proofs.Rows.{Rows, rows-ends, row_of, inline_of}
+use Rattle.runs.specs.Boxes.{Along, Rows, Block}
+use Rattle.runs.proofs.Rows.{rows-ends, row_of, inline_at}
 use Rattle.sampling.specs.declared.Range.{Range}
 use Rattle.sampling.specs.Samples.{range_of, floats_of, strip_of, FloatBox}
 use Rattle.sampling.proofs.Pieces.{row_floats}
@@ -152,33 +152,13 @@ module _ {r : Record} {f : List ℕ} {g : Region} {q : Lattice} {κ : Kind} {m i
       (ee ∙ rw run (omega arith))
       (y ∙ rw ec (cat-same nj _ _ column_float)))
 
--- ---- the inlines of a box
+-- ---- a turn of the loop over the strips of a box, in a region that is one sample high
 
--- strips of nj samples on ni inlines, the first of them from item m on
-pub record Strips (r : Record) (f : List ℕ) (g : Region) (q : Lattice) (κ : Kind) (m i j ni nj : ℕ) : Type 0 where
-  pub ready : Ready r f g q
-  pub flat : q.count2 ≡ 1
-  pub in_i : Along r g 0 i ni
-  pub in_j : Along r g 1 j nj
-  pub in_k : Along r g 2 0 1
-  pub kind : κ ≡ kind_in r f (brick_of r (place g i j 0))
-  pub item : m ≡ item_no r (place g i j 0)
+module _ {r : Record} {f : List ℕ} {g : Region} {q : Lattice} {κ : Kind} {m i ni j nj k nk : ℕ} (h : Block r f g q κ m i ni j nj k nk) (flat : q.count2 ≡ 1) where
+  pub turn_room : {t room : ℕ} → room ≡ size_of g * 1 → t < ni → (i + t) * q.count1 + j + nj ≤ room
+  turn_room {t} {room} e l = let s : room ≡ size_of g = e ∙ mul-one (size_of g) in rw s (strip_room (inline_at h l) flat)
 
-module _ {r : Record} {f : List ℕ} {g : Region} {q : Lattice} {κ : Kind} {m i j ni nj : ℕ} (h : Strips r f g q κ m i j ni nj) {t : ℕ} (l : t < ni) where
-  pub strip_of_lem : Rows r f g q κ (m + t * (q.side1 * q.side2)) (i + t) j 0 nj 1
-  strip_of_lem = inline_of h.ready h.in_i h.in_j h.in_k h.kind h.item l
-
-  -- a strip, after the t before it
-  pub strips_more : {old new ys : List Float} (a e c : ℕ) → length old ≡ size_of g → FloatBox r f g i t j nj 0 1 old new → a ≡ (i + t) * q.count1 + j → e ≡ a + nj → c ≡ nj
-      → ys ≡ strip_of r f κ (m + t * (q.side1 * q.side2)) q.side2 c → FloatBox r f g i (t + 1) j nj 0 1 old (put_mid a (e - a) new ys)
-  strips_more {old} {new} {ys} a e c size box ea ee ec y = boxed_more0 box (strip_box strip_of_lem h.flat a e c new ys (box.size ∙ size) ea ee ec y)
-
--- a box of such a region
-module _ {r : Record} {f : List ℕ} {g : Region} {q : Lattice} {i j k ni nj nk : ℕ} (ready : Ready r f g q) (ai : Along r g 0 i ni) (aj : Along r g 1 j nj) (ak : Along r g 2 k nk) (flat : q.count2 ≡ 1) where
-  pub strips : {κ : Kind} {m : ℕ} → κ ≡ kind_in r f (brick_of r (place g i j k)) → m ≡ item_no r (place g i j k) → Strips r f g q κ m i j ni nj
-  strips {κ} {m} kind item =
-      let e : k ≡ 0 = top_of ready ak flat in
-      record { ready = ready; flat = flat; in_i = ai; in_j = aj; in_k = rw (e, one_of ready ak flat) at ak; kind = rw e at kind; item = rw e at item }
-
-  pub strips_box : {old new : List Float} → FloatBox r f g i ni j nj 0 1 old new → FloatBox r f g i ni j nj k nk old new
-  strips_box b = rw (top_of ready ak flat, one_of ready ak flat) b
+  pub strips_more : {t : ℕ} {d d' ys : List Float} → length d ≡ size_of g * 1 → FloatBox r f g i t j nj k nk d d' → t < ni → (c : ℕ) → c ≡ nj
+      → ys ≡ strip_of r f κ (m + t * (q.side1 * q.side2)) q.side2 c
+      → (let s : ℕ = (i + t) * q.count1 + j in FloatBox r f g i (t + 1) j nj k nk d (put_mid s (s + nj - s) d' ys))
+  strips_more size b l c ec y = boxed_more0 b (strip_box (inline_at h l) flat _ _ c _ _ (b.size ∙ size ∙ mul-one (size_of g)) refl refl ec y)

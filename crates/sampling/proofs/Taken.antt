@@ -10,8 +10,8 @@ use Rattle.cube.specs.declared.Region.{Region}
 use Rattle.cube.specs.Regions.{run_of, size_of, float_verdict}
 use Rattle.cube.proofs.Regions.{Passed, float_passed}
 use Rattle.runs.specs.declared.Lattice.{Lattice}
-use Rattle.runs.specs.Runs.{lattice_of, Allowed, Ready}
-use Rattle.runs.proofs.Steps.{allowed, ready, counts}
+use Rattle.runs.specs.Runs.{lattice_of, Allowed, Ready, Laid}
+use Rattle.runs.proofs.Steps.{allowed, ready, laid, counts}
 use Rattle.runs.proofs.Products.{le-mul-left}
 
 module _ (r : Record) (f : List ℕ) (g : Region) (room : ℕ) (e : float_verdict r f g room ≡ Taken) where
@@ -21,12 +21,12 @@ module _ (r : Record) (f : List ℕ) (g : Region) (room : ℕ) (e : float_verdic
   pub taken_allowed : Allowed r g
   taken_allowed = allowed r f g room (size_of g) passed
 
-  pub taken_runs : (0 < run_of g 1) × (0 < run_of g 2)
-  taken_runs = (omega (arith, passed.region.run1.0), omega (arith, passed.region.run2.0))
-
-  module _ (q : Lattice) (laid : q ≡ lattice_of r g) where
+  module _ (q : Lattice) (is : q ≡ lattice_of r g) where
     pub taken-ready : Ready r f g q
-    taken-ready = ready r f g room (size_of g) passed q laid
+    taken-ready = ready r f g room (size_of g) passed q is
+
+    pub taken_laid : Laid r g q
+    taken_laid = laid r f g room (size_of g) passed q is
 
     count-is : q.count0 ≡ run_of g 0
     count-is = (counts r f g q taken-ready).0

@@ -23,10 +23,17 @@ pub record Fitting (r : Record) (q : Lattice) : Type 0 where
   pub width : q.width ≡ item_bytes r
   pub missing : q.missing ≡ missing_brick r
 
+-- the float of a region's sample, by how far it is past the region's start: one element of a buffer
+abbrev pub float_at : Record → List ℕ → Region → ℕ → ℕ → ℕ → List Float
+float_at r f g x y z = float_of r (rows_of r f (place g x y z)) ∷ []
+
+abbrev pub one : Record → ℕ
+one r = 1
+
 -- new is old, but that a box of the region holds its samples
 abbrev pub FloatBox : Record → List ℕ → Region → ℕ → ℕ → ℕ → ℕ → ℕ → ℕ → List Float → List Float → Type 0
 FloatBox r f g i ni j nj k nk old new =
-    Boxed 1 (run_of g 0) (run_of g 1) (run_of g 2) (λ x y z. float_of r (rows_of r f (place g x y z)) ∷ []) i ni j nj k nk old new
+    Boxed 1 (run_of g 0) (run_of g 1) (run_of g 2) (float_at r f g) i ni j nj k nk old new
 
 -- n samples of a brick of this kind from item m on: the float of a missing or a constant brick again and again, decoded parts of the file of a stored one
 abbrev pub floats_of : Record → List ℕ → Kind → ℕ → ℕ → List Float

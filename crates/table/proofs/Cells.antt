@@ -1,7 +1,6 @@
 -- The cells of a window, and the windows one after the other. Assumes nothing.
-use Rattle.std.specs.Bool.{⊤}
+use Rattle.std.specs.Bool.{⊤, MatchBool, then_some}
 use Rattle.std.specs.Option.{MatchOption, unwrap_or, option_or}
-use Rattle.std.specs.Bool.{MatchBool, then_some}
 use Rattle.std.specs.List.{AllWithin, HoldsAt}
 use Rattle.std.proofs.lemmas.List.{get_or-take, get_or-drop, length-take, length-drop}
 use Rattle.endian.proofs.Search.{clash}

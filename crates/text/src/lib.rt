@@ -6,7 +6,8 @@ ghost use Rattle.floats.specs.Rules.{signed_of};
 ghost use Rattle.text.specs.Text.{decimal, signed_decimal};
 
 // Where bytes go: a lent slice, and the place after what is written. Each call goes on where the one before it ended, and leaves
-// out what does not fit, so whoever makes a writer looks at its place once, at the end.
+// out what does not fit, so whoever makes a writer looks at its place once, at the end. It is no `fmt::Write`: `write!` promises its
+// text only where it answers Ok, and nothing promises that it does, while a listing is promised of every file.
 #[derive(Drop)]
 pub struct Writer<'a> {
     out: &'a mut [u8],

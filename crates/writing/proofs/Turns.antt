@@ -1,5 +1,5 @@
 -- The turns of the loops of a write: what the calls of a turn answered comes in as equations. Assumes nothing.
-use Prim.Native.Nat.{ℕ, ◌+◌, ◌-◌, ◌*◌, ◌≤◌, ◌<◌, zero-le}
+use Prim.Native.Nat.{ℕ, ◌+◌, ◌-◌, ◌*◌, ◌%◌, ◌≤◌, ◌<◌, min, zero-le}
 use mathlib.Core.Path.{◌≡◌, refl, sym, ap, subst, ◌∙◌}
 use mathlib.Core.List.{List}
 use native.Mathlib.Omega.{arith}
@@ -12,11 +12,12 @@ use borrow.Rule.Slice.PartMut.{put_mid}
 use Rattle.endian.specs.Loops.{up, tri}
 use Rattle.endian.specs.Bytes.{peek, put}
 use Rattle.endian.proofs.Digits.{next_item}
+use Rattle.record.specs.Record.{side_of}
 use Rattle.record.specs.declared.Record.{Record}
 use Rattle.cube.specs.declared.Region.{Region}
 use Rattle.cube.specs.Places.{item_bytes, kind_in, brick_of, item_no, byte_of}
 use Rattle.table.specs.Entries.{offset_in}
-use Rattle.cube.specs.Regions.{run_of, place, size_of}
+use Rattle.cube.specs.Regions.{start_of, run_of, place, size_of}
 use Rattle.endian.proofs.Cats.{up-add, up_same}
 use Rattle.endian.proofs.Puts.{length-peek}
 use Rattle.cube.proofs.Places.{brick-lt, byte_above}
@@ -24,9 +25,10 @@ use Rattle.cube.proofs.Regions.{Held}
 use Rattle.cube.proofs.Runs.{run_write}
 use Rattle.cube.proofs.Writes.{Kept, kept_refl}
 use Rattle.runs.specs.declared.Lattice.{Lattice}
-use Rattle.runs.proofs.Steps.{Step, step_fits}
+use Rattle.runs.specs.Runs.{Holds}
+use Rattle.runs.proofs.Steps.{ready_fit, counts, ready-width, Step, step, step_fits}
 use Rattle.writing.specs.Writes.{sample_to, Writable}
-use Rattle.writing.proofs.Keeps.{fit_in, covers-all}
+use Rattle.writing.proofs.Keeps.{fit_in, covers-all, run_kept, writable_kept}
 
 module _ {A : Type 0} where
   pub up_more : (n : ℕ) (h : ℕ → A → A) (s : A) → up (n + 1) h s ≡ h n (up n h s)
@@ -82,6 +84,37 @@ module _ (r : Record) (f : List ℕ) (g : Region) (q : Lattice) (d : List ℕ) (
 pub run_more : (r : Record) (g : Region) (d : List ℕ) (i j k c : ℕ) (f₀ f f' : List ℕ) → f ≡ up k (sample_to r g d i j) f₀ → f' ≡ up c (λ t. sample_to r g d i j (k + t)) f
     → f' ≡ up (k + c) (sample_to r g d i j) f₀
 run_more r g d i j k c f₀ f f' e e' = e' ∙ ap (up c (λ t. sample_to r g d i j (k + t))) e ∙ sym (up-add k c (sample_to r g d i j) f₀)
+
+-- a turn of the loop over a run, of which k samples are written
+module _ {r : Record} {f₀ f : List ℕ} {g : Region} {q : Lattice} {d : List ℕ} (h : Writable r f₀ g q d) {i j k : ℕ} (hi : i < run_of g 0) (hj : j < run_of g 1)
+    (so_far : f ≡ up k (sample_to r g d i j) f₀) (more : k < q.count2) where
+  pub turn_here : k < run_of g 2
+  turn_here = omega (arith, (counts r f₀ g q h.ready).2, more)
+
+  pub turn_holds : Holds g i j k
+  turn_holds = record { inline = hi; crossline = hj; vertical = turn_here }
+
+  pub turn_still : Writable r f g q d
+  turn_still =
+      writable_kept r f₀ g q d h f (subst (Kept r f₀) (sym so_far) (run_kept r f₀ g q d h i hi j hj f₀ (kept_refl r f₀) k (omega (arith, turn_here))))
+
+  module _ {c : ℕ} (ec : c ≡ min (side_of r.description 2 - (start_of g 2 + k) % side_of r.description 2) (q.count2 - k)) where
+    pub turn_step : Step r g k q.count2 c
+    turn_step = step r g k q.count2 c (ready_fit r f₀ g q h.ready) more ec
+
+    turn_within : k + c ≤ run_of g 2
+    turn_within = omega (arith, turn_step.left, (counts r f₀ g q h.ready).2)
+
+    module _ {o m w a : ℕ} (eo : o ≡ offset_in (kind_in r f (brick_of r (place g i j k)))) (em : m ≡ item_no r (place g i j k)) (ew : w ≡ q.width) (ea : a ≡ tri (run_of g 1) (run_of g 2) i j k * w) where
+      turn_width : w ≡ item_bytes r
+      turn_width = ew ∙ ready-width r f₀ g q h.ready
+
+      pub turn_fits : (o + (m + c) * w ≤ length f) × (a + c * w ≤ length d)
+      turn_fits = turn-fits r f g q d turn_still i j k q.count2 c hi hj turn_here turn_step turn_within o m w a eo em turn_width ea
+
+      pub turn_more : {f' : List ℕ} → f' ≡ put f (o + m * w) (peek d a (c * w)) → f' ≡ up (k + c) (sample_to r g d i j) f₀
+      turn_more {f'} e =
+          run_more r g d i j k c f₀ f f' so_far (e ∙ turn-put r f g q d turn_still i j k q.count2 c hi hj turn_here turn_step turn_within o m w a eo em turn_width ea)
 
 -- ---- the input's bytes of a run and of an inline
 

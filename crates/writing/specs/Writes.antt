@@ -7,6 +7,7 @@ use Rattle.cube.specs.declared.Region.{Region}
 use Rattle.cube.specs.Places.{item_bytes, kind_in, brick_of}
 use Rattle.cube.specs.Regions.{run_of, place, size_of, chunk, store}
 use Rattle.runs.specs.declared.Lattice.{Lattice}
+use Rattle.runs.specs.declared.site.Site.{Site}
 use Rattle.runs.specs.Runs.{Ready}
 
 module _ (r : Record) (g : Region) (d : List ℕ) where
@@ -26,3 +27,7 @@ pub record Writable (r : Record) (f : List ℕ) (g : Region) (q : Lattice) (d : 
   pub ready : Ready r f g q
   pub stored : (i j k : ℕ) → i < run_of g 0 → j < run_of g 1 → k < run_of g 2 → (o : ℕ) × (kind_in r f (brick_of r (place g i j k)) ≡ Stored o)
   pub enough : size_of g * item_bytes r ≤ length d
+
+-- the same of a site
+abbrev pub IsWritable : Site → List ℕ → List ℕ → Type 0
+IsWritable s f d = Writable s.record.now f s.region.now s.lattice d

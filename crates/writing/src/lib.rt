@@ -10,23 +10,24 @@ ghost use Rattle.cube.specs.Places.{item_bytes, kind_in, brick_of};
 ghost use Rattle.cube.specs.Calls.{Call, answer_of, cube_after};
 ghost use Rattle.table.specs.Entries.{offset_in};
 ghost use Rattle.cube.specs.Regions.{run_of, place, size_of, written, write_verdict};
-ghost use Rattle.runs.specs.Runs.{Placed};
-ghost use Rattle.writing.specs.Writes.{run_to, plane_to, Writable};
+ghost use Rattle.runs.specs.Runs.{Holds};
+ghost use Rattle.writing.specs.Writes.{run_to, plane_to, IsWritable};
 
 use cube::Region;
 use endian::copy;
 use record::{Record, Refusal};
 use regions::write_verdict;
-use runs::{Lattice, index, item_on, kind_on, lattice_of, span};
+use runs::site::Site;
+use runs::{index, lattice_of};
 use table::Kind;
 
 // Where the brick that holds a sample of the region is stored.
-fn offset_on(file: &[u8], r: Record, g: Region, q: Lattice, i: usize, j: usize, k: usize) -> u64
-    requires placed { Placed r g q i j k }
-    requires length_value { r.length ≡ length file.now }
-    ensures { result ≡ offset_in (kind_in r file.now (brick_of r (place g i j k))) }
+fn offset_on(file: &[u8], site: &Site, i: usize, j: usize, k: usize) -> u64
+    requires sample { Holds site.now.region.now i j k }
+    requires same_length { site.now.record.now.length ≡ length file.now }
+    ensures { result ≡ offset_in (kind_in site.now.record.now file.now (brick_of site.now.record.now (place site.now.region.now i j k))) }
 {
-    let kind = kind_on(file, r, g, q, i, j, k);
+    let kind = site.kind(file, i, j, k);
     match kind {
         Kind::Missing => 0,
         Kind::Constant(_) => 0,
@@ -55,28 +56,19 @@ fn write_items(
 }
 
 // One vertical run, cut at the bricks' faces: the input's bytes from `at` on.
-fn write_run(
-    file: &mut [u8],
-    input: &[u8],
-    r: Record,
-    g: Region,
-    q: Lattice,
-    i: usize,
-    j: usize,
-    at: usize,
-)
-    requires writable { Writable r file.old g q input.now }
-    requires i_bound { (i < run_of g 0) × (j < run_of g 1) × (at ≡ tri (run_of g 1) (run_of g 2) i j 0 * item_bytes r) }
-    ensures { file.new ≡ run_to r g input.now i j file.old }
+fn write_run(file: &mut [u8], input: &[u8], site: &Site, i: usize, j: usize, at: usize)
+    requires writable { IsWritable site.now file.old input.now }
+    requires i_bound { (i < run_of site.now.region.now 0) × (j < run_of site.now.region.now 1) × (at ≡ tri (run_of site.now.region.now 1) (run_of site.now.region.now 2) i j 0 * item_bytes site.now.record.now) }
+    ensures { file.new ≡ run_to site.now.record.now site.now.region.now input.now i j file.old }
 {
-    let w = index(q.width);
-    let n = q.count2;
+    let w = index(site.lattice.width);
+    let n = site.lattice.count2;
     let mut k = 0;
     let mut a = at;
     while k < n {
-        let offset = offset_on(file, r, g, q, i, j, k);
-        let item = item_on(r, g, q, i, j, k);
-        let c = span(r, g, q, i, j, k, n - k);
+        let offset = offset_on(file, site, i, j, k);
+        let item = site.item(i, j, k);
+        let c = site.down(k, n - k);
         write_items(file, input, offset, item, a, c, w);
         a += c * w;
         k += c;
@@ -84,46 +76,29 @@ fn write_run(
 }
 
 // The runs of one inline, of `run` bytes each.
-fn write_plane(
-    file: &mut [u8],
-    input: &[u8],
-    r: Record,
-    g: Region,
-    q: Lattice,
-    i: usize,
-    run: usize,
-    at: usize,
-)
-    requires writable { Writable r file.old g q input.now }
-    requires i_bound { (i < run_of g 0) × (run ≡ run_of g 2 * item_bytes r) × (at ≡ tri (run_of g 1) (run_of g 2) i 0 0 * item_bytes r) }
-    ensures { file.new ≡ plane_to r g input.now i file.old }
+fn write_plane(file: &mut [u8], input: &[u8], site: &Site, i: usize, run: usize, at: usize)
+    requires writable { IsWritable site.now file.old input.now }
+    requires i_bound { (i < run_of site.now.region.now 0) × (run ≡ run_of site.now.region.now 2 * item_bytes site.now.record.now) × (at ≡ tri (run_of site.now.region.now 1) (run_of site.now.region.now 2) i 0 0 * item_bytes site.now.record.now) }
+    ensures { file.new ≡ plane_to site.now.record.now site.now.region.now input.now i file.old }
 {
-    let n = q.count1;
+    let n = site.lattice.count1;
     let mut a = at;
     for j in 0..n {
-        write_run(file, input, r, g, q, i, j, a);
+        write_run(file, input, site, i, j, a);
         a += run;
     }
 }
 
 // The inlines of a region, of `plane` bytes each.
-fn write_planes(
-    file: &mut [u8],
-    input: &[u8],
-    r: Record,
-    g: Region,
-    q: Lattice,
-    run: usize,
-    plane: usize,
-)
-    requires writable { Writable r file.old g q input.now }
-    requires run_value { (run ≡ run_of g 2 * item_bytes r) × (plane ≡ run_of g 1 * run) }
-    ensures { file.new ≡ written r g input.now file.old }
+fn write_planes(file: &mut [u8], input: &[u8], site: &Site, run: usize, plane: usize)
+    requires writable { IsWritable site.now file.old input.now }
+    requires run_value { (run ≡ run_of site.now.region.now 2 * item_bytes site.now.record.now) × (plane ≡ run_of site.now.region.now 1 * run) }
+    ensures { file.new ≡ written site.now.record.now site.now.region.now input.now file.old }
 {
-    let n = q.count0;
+    let n = site.lattice.count0;
     let mut a = 0;
     for i in 0..n {
-        write_plane(file, input, r, g, q, i, run, a);
+        write_plane(file, input, site, i, run, a);
         a += plane;
     }
 }
@@ -138,7 +113,12 @@ fn write_region(file: &mut [u8], input: &[u8], r: Record, g: Region) -> usize
     let run = q.count2 * index(q.width);
     let plane = q.count1 * run;
     let n = q.count0 * plane;
-    write_planes(file, input, r, g, q, run, plane);
+    let site = Site {
+        record: &r,
+        region: &g,
+        lattice: q,
+    };
+    write_planes(file, input, &site, run, plane);
     n
 }
 

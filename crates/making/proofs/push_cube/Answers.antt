@@ -22,5 +22,6 @@ push_entries-requires c =
 pub returns : goal.returns
 returns c =
     let p = writes_step (writes_step (writes_step c.push_headers.ensures c.push_zeros.ensures) c.push_entries.ensures) c.push_zeros-2.ensures in
-    let w : Writes c.new-file.result (made_file c.args.d c.args.text.now c.args.fill) c.push_zeros-2.new.out = rw (← cube-is c.args.d c.args.text.now c.args.fill _ c.plan_of-plan.ensures) p in
+    let w : Writes c.new-file.result (made_file c.args.d c.args.text.now c.args.fill) c.push_zeros-2.new.out =
+    rw (← cube-is c.args.d c.args.text.now c.args.fill _ c.plan_of-plan.ensures) p in
     search (rules, w)

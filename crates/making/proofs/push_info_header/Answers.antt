@@ -4,4 +4,8 @@ use Rattle.making.proofs.push_info_header.Goals as goal
 
 pub returns : goal.returns
 unfolding info_header
-returns c = writes_step (writes_step (writes_step (writes_step (writes_step (writes_step (writes_step c.push_brick_fields.ensures c.push_id_fields.ensures) c.push_grid_fields.ensures) c.push_current_fields.ensures) c.push_survey_fields.ensures) c.push_zeros.ensures) c.push_unit_fields.ensures) c.push_u32.ensures
+returns c =
+    let grid = writes_step (writes_step c.push_brick_fields.ensures c.push_id_fields.ensures) c.push_grid_fields.ensures in
+    let current = writes_step grid c.push_current_fields.ensures in
+    let zeros = writes_step (writes_step current c.push_survey_fields.ensures) c.push_zeros.ensures in
+    writes_step (writes_step zeros c.push_unit_fields.ensures) c.push_u32.ensures

@@ -1,9 +1,6 @@
-use Prim.Native.Nat.{◌-◌, ◌≤◌}
+use Prim.Native.Nat.{◌≤◌}
 use Rattle.reading.specs.Items.{RawBox}
 use Rattle.reading.proofs.read_planes.Given as goal
 
 abbrev pub invariant-loop-t : goal.invariant-loop-t
-invariant-loop-t l = RawBox l.r l.file l.g l.i l.t l.j l.nj l.k l.nk l.initial.out l.out × (l.t ≤ l.ni)
-
-abbrev pub decreases-loop-t : goal.decreases-loop-t
-decreases-loop-t l = l.ni - l.t
+invariant-loop-t l = RawBox l.v.site.record.now l.v.file.now l.v.site.region.now l.b.i.at l.t l.b.j.at l.b.j.n l.b.k.at l.b.k.n l.initial.out l.out × (l.t ≤ l.b.i.n)

@@ -1,126 +1,42 @@
-use Prim.Native.Nat.{◌+◌, ◌*◌}
-use mathlib.Core.Path.{◌≡◌, refl, ◌∙◌}
+use mathlib.Core.Path.{◌≡◌}
 use native.Mathlib.Omega.{arith}
-use lib.ListN.{length}
-use Rattle.cube.specs.Places.{item_bytes}
-use Rattle.runs.proofs.Boxes.{boxed_more1}
-use Rattle.runs.proofs.Steps.{ready-width}
-use Rattle.reading.specs.Items.{RawBox}
-use Rattle.runs.proofs.Rows.{Rows, rows-small, row_of}
-use Rattle.reading.proofs.Turns.{Bytes, row_asks, row_at, row_box}
+use Rattle.reading.proofs.Turns.{turn_asks, turn_at, turn_small, turn_box}
 use Rattle.reading.proofs.read_rows.Goals as goal
 
 pub overflow_mul-a : goal.overflow_mul-a
-overflow_mul-a c =
-    let rows : Rows c.args.r c.args.file.now c.args.g c.args.q c.args.kind c.args.item c.args.i c.args.j c.args.k c.args.nj c.args.nk =
-    record { ready = c.requires.ready.0; in_i = c.requires.i_bound.0; in_j = c.requires.i_bound.1; in_k = c.requires.i_bound.2; kind = c.requires.kind_value.0; item = c.requires.kind_value.1 } in
-    let width : c.index-w.result ≡ item_bytes c.args.r = c.index-w.ensures.0 ∙ ready-width _ _ _ _ c.requires.ready.0 in
-    let turn : Rows c.args.r c.args.file.now c.args.g c.args.q c.args.kind (c.args.item + c.loop-t.t * c.args.q.side2) c.args.i (c.args.j + c.loop-t.t) c.args.k 1 c.args.nk =
-    row_of rows c.loop-t-test.true in
-    let bytes : Bytes c.args.q.count1 c.args.q.count2 c.args.i (c.args.j + c.loop-t.t) c.args.k c.args.nk c.index-w.result (length c.args.out.now) = row_at turn width _ c.requires.ready.1 in
-    omega (arith, bytes)
+overflow_mul-a c = omega (arith, turn_at c.requires.rows c.index-w.ensures.0 c.requires.room c.loop-t-test.true)
 
 pub overflow_add-a-in-loop-t : goal.overflow_add-a-in-loop-t
-overflow_add-a-in-loop-t c =
-    let rows : Rows c.args.r c.args.file.now c.args.g c.args.q c.args.kind c.args.item c.args.i c.args.j c.args.k c.args.nj c.args.nk =
-    record { ready = c.requires.ready.0; in_i = c.requires.i_bound.0; in_j = c.requires.i_bound.1; in_k = c.requires.i_bound.2; kind = c.requires.kind_value.0; item = c.requires.kind_value.1 } in
-    let width : c.index-w.result ≡ item_bytes c.args.r = c.index-w.ensures.0 ∙ ready-width _ _ _ _ c.requires.ready.0 in
-    let turn : Rows c.args.r c.args.file.now c.args.g c.args.q c.args.kind (c.args.item + c.loop-t.t * c.args.q.side2) c.args.i (c.args.j + c.loop-t.t) c.args.k 1 c.args.nk =
-    row_of rows c.loop-t-test.true in
-    let bytes : Bytes c.args.q.count1 c.args.q.count2 c.args.i (c.args.j + c.loop-t.t) c.args.k c.args.nk c.index-w.result (length c.args.out.now) = row_at turn width _ c.requires.ready.1 in
-    omega (arith, bytes)
+overflow_add-a-in-loop-t c = omega (arith, turn_at c.requires.rows c.index-w.ensures.0 c.requires.room c.loop-t-test.true)
 
 pub overflow_mul-a-in-loop-t : goal.overflow_mul-a-in-loop-t
-overflow_mul-a-in-loop-t c =
-    let rows : Rows c.args.r c.args.file.now c.args.g c.args.q c.args.kind c.args.item c.args.i c.args.j c.args.k c.args.nj c.args.nk =
-    record { ready = c.requires.ready.0; in_i = c.requires.i_bound.0; in_j = c.requires.i_bound.1; in_k = c.requires.i_bound.2; kind = c.requires.kind_value.0; item = c.requires.kind_value.1 } in
-    let width : c.index-w.result ≡ item_bytes c.args.r = c.index-w.ensures.0 ∙ ready-width _ _ _ _ c.requires.ready.0 in
-    let turn : Rows c.args.r c.args.file.now c.args.g c.args.q c.args.kind (c.args.item + c.loop-t.t * c.args.q.side2) c.args.i (c.args.j + c.loop-t.t) c.args.k 1 c.args.nk =
-    row_of rows c.loop-t-test.true in
-    let bytes : Bytes c.args.q.count1 c.args.q.count2 c.args.i (c.args.j + c.loop-t.t) c.args.k c.args.nk c.index-w.result (length c.args.out.now) = row_at turn width _ c.requires.ready.1 in
-    omega (arith, bytes)
+overflow_mul-a-in-loop-t c = omega (arith, turn_at c.requires.rows c.index-w.ensures.0 c.requires.room c.loop-t-test.true)
 
 pub overflow_add-a-in-loop-t-2 : goal.overflow_add-a-in-loop-t-2
-overflow_add-a-in-loop-t-2 c =
-    let rows : Rows c.args.r c.args.file.now c.args.g c.args.q c.args.kind c.args.item c.args.i c.args.j c.args.k c.args.nj c.args.nk =
-    record { ready = c.requires.ready.0; in_i = c.requires.i_bound.0; in_j = c.requires.i_bound.1; in_k = c.requires.i_bound.2; kind = c.requires.kind_value.0; item = c.requires.kind_value.1 } in
-    let width : c.index-w.result ≡ item_bytes c.args.r = c.index-w.ensures.0 ∙ ready-width _ _ _ _ c.requires.ready.0 in
-    let turn : Rows c.args.r c.args.file.now c.args.g c.args.q c.args.kind (c.args.item + c.loop-t.t * c.args.q.side2) c.args.i (c.args.j + c.loop-t.t) c.args.k 1 c.args.nk =
-    row_of rows c.loop-t-test.true in
-    let bytes : Bytes c.args.q.count1 c.args.q.count2 c.args.i (c.args.j + c.loop-t.t) c.args.k c.args.nk c.index-w.result (length c.args.out.now) = row_at turn width _ c.requires.ready.1 in
-    omega (arith, bytes)
+overflow_add-a-in-loop-t-2 c = omega (arith, turn_at c.requires.rows c.index-w.ensures.0 c.requires.room c.loop-t-test.true)
 
 pub overflow_mul-a-in-loop-t-2 : goal.overflow_mul-a-in-loop-t-2
-overflow_mul-a-in-loop-t-2 c =
-    let rows : Rows c.args.r c.args.file.now c.args.g c.args.q c.args.kind c.args.item c.args.i c.args.j c.args.k c.args.nj c.args.nk =
-    record { ready = c.requires.ready.0; in_i = c.requires.i_bound.0; in_j = c.requires.i_bound.1; in_k = c.requires.i_bound.2; kind = c.requires.kind_value.0; item = c.requires.kind_value.1 } in
-    let width : c.index-w.result ≡ item_bytes c.args.r = c.index-w.ensures.0 ∙ ready-width _ _ _ _ c.requires.ready.0 in
-    let turn : Rows c.args.r c.args.file.now c.args.g c.args.q c.args.kind (c.args.item + c.loop-t.t * c.args.q.side2) c.args.i (c.args.j + c.loop-t.t) c.args.k 1 c.args.nk =
-    row_of rows c.loop-t-test.true in
-    let bytes : Bytes c.args.q.count1 c.args.q.count2 c.args.i (c.args.j + c.loop-t.t) c.args.k c.args.nk c.index-w.result (length c.args.out.now) = row_at turn width _ c.requires.ready.1 in
-    omega (arith, bytes)
+overflow_mul-a-in-loop-t-2 c = omega (arith, turn_at c.requires.rows c.index-w.ensures.0 c.requires.room c.loop-t-test.true)
 
 pub overflow_add-e : goal.overflow_add-e
-overflow_add-e c =
-    let rows : Rows c.args.r c.args.file.now c.args.g c.args.q c.args.kind c.args.item c.args.i c.args.j c.args.k c.args.nj c.args.nk =
-    record { ready = c.requires.ready.0; in_i = c.requires.i_bound.0; in_j = c.requires.i_bound.1; in_k = c.requires.i_bound.2; kind = c.requires.kind_value.0; item = c.requires.kind_value.1 } in
-    let width : c.index-w.result ≡ item_bytes c.args.r = c.index-w.ensures.0 ∙ ready-width _ _ _ _ c.requires.ready.0 in
-    let turn : Rows c.args.r c.args.file.now c.args.g c.args.q c.args.kind (c.args.item + c.loop-t.t * c.args.q.side2) c.args.i (c.args.j + c.loop-t.t) c.args.k 1 c.args.nk =
-    row_of rows c.loop-t-test.true in
-    let bytes : Bytes c.args.q.count1 c.args.q.count2 c.args.i (c.args.j + c.loop-t.t) c.args.k c.args.nk c.index-w.result (length c.args.out.now) = row_at turn width _ c.requires.ready.1 in
-    omega (arith, bytes)
+overflow_add-e c = omega (arith, turn_at c.requires.rows c.index-w.ensures.0 c.requires.room c.loop-t-test.true)
 
 pub slice_bounds-read_items-end : goal.slice_bounds-read_items-end
-slice_bounds-read_items-end c =
-    let rows : Rows c.args.r c.args.file.now c.args.g c.args.q c.args.kind c.args.item c.args.i c.args.j c.args.k c.args.nj c.args.nk =
-    record { ready = c.requires.ready.0; in_i = c.requires.i_bound.0; in_j = c.requires.i_bound.1; in_k = c.requires.i_bound.2; kind = c.requires.kind_value.0; item = c.requires.kind_value.1 } in
-    let width : c.index-w.result ≡ item_bytes c.args.r = c.index-w.ensures.0 ∙ ready-width _ _ _ _ c.requires.ready.0 in
-    let so_far : RawBox c.args.r c.args.file.now c.args.g c.args.i 1 c.args.j c.loop-t.t c.args.k c.args.nk c.args.out.now c.loop-t.out = c.loop-t.invariant.0 _ _ rows c.requires.ready.1 in
-    let turn : Rows c.args.r c.args.file.now c.args.g c.args.q c.args.kind (c.args.item + c.loop-t.t * c.args.q.side2) c.args.i (c.args.j + c.loop-t.t) c.args.k 1 c.args.nk =
-    row_of rows c.loop-t-test.true in
-    let bytes : Bytes c.args.q.count1 c.args.q.count2 c.args.i (c.args.j + c.loop-t.t) c.args.k c.args.nk c.index-w.result (length c.args.out.now) = row_at turn width _ c.requires.ready.1 in
-    omega (arith, bytes, so_far.size)
+slice_bounds-read_items-end c = omega (arith, turn_at c.requires.rows c.index-w.ensures.0 c.requires.room c.loop-t-test.true, c.loop-t.invariant.0.size)
 
 pub overflow_mul-t : goal.overflow_mul-t
-overflow_mul-t c =
-    let rows : Rows c.args.r c.args.file.now c.args.g c.args.q c.args.kind c.args.item c.args.i c.args.j c.args.k c.args.nj c.args.nk =
-    record { ready = c.requires.ready.0; in_i = c.requires.i_bound.0; in_j = c.requires.i_bound.1; in_k = c.requires.i_bound.2; kind = c.requires.kind_value.0; item = c.requires.kind_value.1 } in
-    let turn : Rows c.args.r c.args.file.now c.args.g c.args.q c.args.kind (c.args.item + c.loop-t.t * c.args.q.side2) c.args.i (c.args.j + c.loop-t.t) c.args.k 1 c.args.nk =
-    row_of rows c.loop-t-test.true in
-    omega (arith, rows-small turn)
+overflow_mul-t c = omega (arith, turn_small c.requires.rows c.index-w.ensures.0 c.loop-t-test.true)
 
-pub overflow_add-item : goal.overflow_add-item
-overflow_add-item c =
-    let rows : Rows c.args.r c.args.file.now c.args.g c.args.q c.args.kind c.args.item c.args.i c.args.j c.args.k c.args.nj c.args.nk =
-    record { ready = c.requires.ready.0; in_i = c.requires.i_bound.0; in_j = c.requires.i_bound.1; in_k = c.requires.i_bound.2; kind = c.requires.kind_value.0; item = c.requires.kind_value.1 } in
-    let turn : Rows c.args.r c.args.file.now c.args.g c.args.q c.args.kind (c.args.item + c.loop-t.t * c.args.q.side2) c.args.i (c.args.j + c.loop-t.t) c.args.k 1 c.args.nk =
-    row_of rows c.loop-t-test.true in
-    omega (arith, rows-small turn)
+pub overflow_add-corner : goal.overflow_add-corner
+overflow_add-corner c = omega (arith, turn_small c.requires.rows c.index-w.ensures.0 c.loop-t-test.true)
 
 pub read_items-requires : goal.read_items-requires
 read_items-requires c =
-    let rows : Rows c.args.r c.args.file.now c.args.g c.args.q c.args.kind c.args.item c.args.i c.args.j c.args.k c.args.nj c.args.nk =
-    record { ready = c.requires.ready.0; in_i = c.requires.i_bound.0; in_j = c.requires.i_bound.1; in_k = c.requires.i_bound.2; kind = c.requires.kind_value.0; item = c.requires.kind_value.1 } in
-    let width : c.index-w.result ≡ item_bytes c.args.r = c.index-w.ensures.0 ∙ ready-width _ _ _ _ c.requires.ready.0 in
-    let turn : Rows c.args.r c.args.file.now c.args.g c.args.q c.args.kind (c.args.item + c.loop-t.t * c.args.q.side2) c.args.i (c.args.j + c.loop-t.t) c.args.k 1 c.args.nk =
-    row_of rows c.loop-t-test.true in
-    let f = row_asks turn width in
-    record {
-      width = (f.0, omega arith);
-      by_index = f.1;
-    }
+    let asks = turn_asks c.requires.rows c.index-w.ensures.0 c.loop-t-test.true in
+    record { width = (asks.0, omega arith); by_index = asks.1 }
 
 pub loop-t-preserved : goal.loop-t-preserved
-loop-t-preserved c = (
-  λ r g h e.
-      let b = c.loop-t.invariant.0 r g h e in
-      boxed_more1 b (row_box (row_of h c.loop-t-test.true) (c.index-w.ensures.0 ∙ ready-width _ _ _ _ h.ready) _ _ _ _ (b.size ∙ e) refl refl c.read_items.ensures),
-  omega arith,
-)
+loop-t-preserved c = (turn_box c.requires.rows c.index-w.ensures.0 c.requires.room c.loop-t.invariant.0 c.loop-t-test.true c.read_items.ensures, omega arith)
 
 pub returns : goal.returns
-returns c =
-    let rows : Rows c.args.r c.args.file.now c.args.g c.args.q c.args.kind c.args.item c.args.i c.args.j c.args.k c.args.nj c.args.nk =
-    record { ready = c.requires.ready.0; in_i = c.requires.i_bound.0; in_j = c.requires.i_bound.1; in_k = c.requires.i_bound.2; kind = c.requires.kind_value.0; item = c.requires.kind_value.1 } in
-    let so_far : RawBox c.args.r c.args.file.now c.args.g c.args.i 1 c.args.j c.loop-t.t c.args.k c.args.nk c.args.out.now c.loop-t.out = c.loop-t.invariant.0 _ _ rows c.requires.ready.1 in
-    let e : c.loop-t.t ≡ c.args.nj = omega arith in rw e at so_far
+returns c = let e : c.loop-t.t ≡ c.args.j.n = omega arith in rw e at c.loop-t.invariant.0

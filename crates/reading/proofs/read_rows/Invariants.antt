@@ -1,17 +1,6 @@
-use Prim.Native.Nat.{◌-◌, ◌*◌, ◌≤◌}
-use mathlib.Core.Path.{◌≡◌}
-use lib.ListN.{length}
-use Rattle.record.specs.declared.Record.{Record}
-use Rattle.cube.specs.declared.Region.{Region}
-use Rattle.cube.specs.Places.{item_bytes}
-use Rattle.cube.specs.Regions.{size_of}
+use Prim.Native.Nat.{◌≤◌}
 use Rattle.reading.specs.Items.{RawBox}
-use Rattle.runs.proofs.Rows.{Rows}
 use Rattle.reading.proofs.read_rows.Given as goal
 
 abbrev pub invariant-loop-t : goal.invariant-loop-t
-invariant-loop-t l =
-    ((r : Record) (g : Region) → Rows r l.file g l.q l.kind l.item l.i l.j l.k l.nj l.nk → length l.initial.out ≡ size_of g * item_bytes r → RawBox r l.file g l.i 1 l.j l.t l.k l.nk l.initial.out l.out) × (l.t ≤ l.nj)
-
-abbrev pub decreases-loop-t : goal.decreases-loop-t
-decreases-loop-t l = l.nj - l.t
+invariant-loop-t l = RawBox l.v.site.record.now l.v.file.now l.v.site.region.now l.i 1 l.j.at l.t l.k.at l.k.n l.initial.out l.out × (l.t ≤ l.j.n)

@@ -4,7 +4,7 @@ use lib.ListN.{length}
 use Rattle.cube.specs.Places.{item_bytes}
 use Rattle.cube.specs.Regions.{size_of}
 use Rattle.cube.proofs.Regions.{Passed, write_passed}
-use Rattle.runs.proofs.Steps.{allowed}
+use Rattle.runs.proofs.Steps.{allowed, laid}
 use Rattle.runs.proofs.Sizes.{Sizes, sizes}
 use Rattle.writing.proofs.Keeps.{writable}
 use Rattle.writing.proofs.write_region.Goals as goal
@@ -38,6 +38,12 @@ overflow_mul-n c =
     let products : Sizes c.args.r c.args.g c.lattice_of-q.result c.index.result (length c.args.input.now) =
     sizes c.args.r c.args.file.now c.args.g c.lattice_of-q.result c.index.result (length c.args.input.now) passed c.lattice_of-q.ensures c.index.ensures.0 in
     omega (arith, products, c)
+
+pub invariant_of-site : goal.invariant_of-site
+invariant_of-site c =
+    let passed : Passed c.args.r c.args.file.now c.args.g (length c.args.input.now) (size_of c.args.g * item_bytes c.args.r) =
+    (write_passed c.args.r c.args.file.now c.args.g (length c.args.input.now) c.requires).0 in
+    record { laid = laid c.args.r c.args.file.now c.args.g _ _ passed _ c.lattice_of-q.ensures }
 
 pub write_planes-requires : goal.write_planes-requires
 write_planes-requires c =

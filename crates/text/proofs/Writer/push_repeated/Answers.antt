@@ -6,4 +6,8 @@ use Rattle.text.proofs.Writer.push_repeated.Goals as goal
 
 pub returns : goal.returns
 returns c =
-    record { same = refl; pours = pours_part _ (rw (length-replicate c.args.n c.args.byte) c.place_after-end.ensures) c.args.self.now.inside (c.fill.ensures.after (λ y e. e) ∙ search (rules, take-replicate)) }
+    let part = c.fill.ensures.after (λ y e. e) ∙ search (rules, take-replicate) in
+    record {
+      same = refl;
+      pours = pours_part _ (rw (length-replicate c.args.n c.args.byte) c.place_after-end.ensures) c.args.self.now.inside part;
+    }
