@@ -13,7 +13,7 @@ ghost use Rattle.bricks.specs.Filler.{Narrow, Repeats, Same};
 use checks::check14_with;
 use cube::missing_brick;
 use endian::u32_at;
-use floats::{integer_value, widen_bits};
+use floats::{Item, widen_bits};
 use record::{Coding, Record, Refusal, coding_of};
 use table::{Kind, kind_at, out_of_range, table_in};
 
@@ -55,7 +55,7 @@ fn constant_value(datatype: u8, raw: u32) -> f64
     ensures { result ≡ value_of datatype raw }
 {
     match coding_of(datatype) {
-        Ok(Coding::Scaled { width: _, half }) => integer_value(raw, half),
+        Ok(Coding::Scaled { width: _, half }) => Item { raw, half }.value(),
         Ok(Coding::Float32 { width: _ }) => widen_bits(raw),
         Err(_) => widen_bits(raw),
     }

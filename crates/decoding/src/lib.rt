@@ -10,7 +10,7 @@ ghost use Rattle.table.specs.Entries.{Width};
 ghost use Rattle.decoding.specs.Items.{Integers};
 
 use endian::{u8_at, u16_at, u32_at};
-use floats::{scaled, widen_bits};
+use floats::{Item, widen_bits};
 use record::{Coding, coding_of};
 
 // The unsigned number of an item of 1, 2 or 4 bytes. Called with a literal width, it is one load.
@@ -31,7 +31,8 @@ fn decode_scaled(out: &mut [f64], bytes: &[u8], width: usize, half: u32, min: f6
     ensures { out.new ≡ cat (length out.old) (λ n. scaled_of half min max (le width bytes.now (n * width)) ∷ []) }
 {
     for n in 0..out.len() {
-        out[n] = scaled(item(bytes, n * width, width), half, min, max);
+        let raw = item(bytes, n * width, width);
+        out[n] = Item { raw, half }.scaled(min, max);
     }
 }
 
@@ -70,7 +71,7 @@ pub fn decode_one(datatype: u8, raw: u32, min: f64, max: f64) -> f64
     ensures { result ≡ decode_of datatype min max raw }
 {
     match coding_of(datatype) {
-        Ok(Coding::Scaled { width: _, half }) => scaled(raw, half, min, max),
+        Ok(Coding::Scaled { width: _, half }) => Item { raw, half }.scaled(min, max),
         Ok(Coding::Float32 { width: _ }) => widen_bits(raw),
         Err(_) => widen_bits(raw),
     }

@@ -4,16 +4,8 @@
 ghost use Rattle.std.specs.Prelude.{◌≡◌, ◌+◌, ◌*◌, ◌<◌, ◌≤◌, length, get_or};
 ghost use Rattle.endian.specs.Bytes.{le, peek, put};
 
-// N bytes from a place on, as an array.
-fn bytes_at<const N: usize>(s: &[u8], at: usize) -> [u8; N]
-    requires { at + N ≤ length s.now }
-    ensures { result ≡ peek s.now at N }
-{
-    *s[at..].first_chunk::<N>().unwrap()
-}
-
-// A number of each width at a place. Each stays a function of its own: the library reads bytes by a function of each integer type, of which no
-// trait makes one.
+// A number of each width at a place. Each stays a function of its own, since no trait makes one of the library's from_le_bytes of each type.
+// The bytes are listed: with one array of N bytes, by first_chunk, writes of a few samples took a tenth longer.
 pub fn u8_at(s: &[u8], at: usize) -> u8
     requires { at < length s.now }
     ensures { result ≡ get_or s.now at 0 }
@@ -21,25 +13,37 @@ pub fn u8_at(s: &[u8], at: usize) -> u8
     s[at]
 }
 
+#[tactic(auto, unfolding(crate::specs::Bytes::le))]
 pub fn u16_at(s: &[u8], at: usize) -> u16
     requires { at + 2 ≤ length s.now }
     ensures { result ≡ le 2 s.now at }
 {
-    u16::from_le_bytes(bytes_at(s, at))
+    u16::from_le_bytes([s[at], s[at + 1]])
 }
 
+#[tactic(auto, unfolding(crate::specs::Bytes::le))]
 pub fn u32_at(s: &[u8], at: usize) -> u32
     requires { at + 4 ≤ length s.now }
     ensures { result ≡ le 4 s.now at }
 {
-    u32::from_le_bytes(bytes_at(s, at))
+    u32::from_le_bytes([s[at], s[at + 1], s[at + 2], s[at + 3]])
 }
 
+#[tactic(auto, unfolding(crate::specs::Bytes::le))]
 pub fn u64_at(s: &[u8], at: usize) -> u64
     requires { at + 8 ≤ length s.now }
     ensures { result ≡ le 8 s.now at }
 {
-    u64::from_le_bytes(bytes_at(s, at))
+    u64::from_le_bytes([
+        s[at],
+        s[at + 1],
+        s[at + 2],
+        s[at + 3],
+        s[at + 4],
+        s[at + 5],
+        s[at + 6],
+        s[at + 7],
+    ])
 }
 
 // Byte by byte: runs below 4 bytes, and the load and the store of a piece.

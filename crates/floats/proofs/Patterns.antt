@@ -7,7 +7,7 @@ use lib.Ieee.Exact.{HasValue}
 use lib.Ieee.Back.{round_whole}
 use lib.Ieee.Order.{drop, kept}
 use lib.Ieee.Bits.{nan_bits_is, nan_bits_above, of_bits-to_bits, of_bits-fits, to_bits-of_bits, is_true}
-use lib.Ieee.Compare.{differs_from_itself, nan_differs}
+use lib.Ieee.Compare.{nan_differs}
 use Rattle.floats.specs.Rules.{finite, finite_bits, same_bits, range_ok}
 use Rattle.floats.proofs.Rounding.{split}
 
@@ -83,9 +83,9 @@ equals_itself (inf s) e = tt
 equals_itself (fin s m e') e = tt
 
 -- what `same_bits` answers, where x is a NaN and where it is none
-pub same-nan : (x : Float) (b : ℕ) → ne x x ≡ true → false ≡ same_bits x b
-unfolding same_bits is_nan
-same-nan x b e = sym (subst (λ (z : Float). same_bits z b ≡ false) (sym (differs_from_itself x (subst T (sym e) tt))) (and-false (fits binary32 nan)))
+pub same-nan : (x : Float) (b : ℕ) → is_nan x ≡ true → false ≡ same_bits x b
+unfolding same_bits
+same-nan x b e = sym (rw e (and-false (fits binary32 x)))
 
 pub same_number : (x : Float) (b : ℕ) → T (fits binary32 x) → T (not (is_nan x)) → eqb (to_bits binary32 x) b ≡ same_bits x b
 unfolding same_bits

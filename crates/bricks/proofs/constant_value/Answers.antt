@@ -8,17 +8,17 @@ use Rattle.record.proofs.Laws.{scaled_fits}
 use Rattle.bricks.proofs.Entries.{raw-fits}
 use Rattle.bricks.proofs.constant_value.Goals as goal
 
-pub integer_value-requires : goal.integer_value-requires
-integer_value-requires c =
+pub invariant_of-value : goal.invariant_of-value
+invariant_of-value c =
     let e = sym c.coding_of.ensures ∙ c.in-Ok-Scaled.is ∙ ap Ok c.in-Ok-Scaled.field-0-is in
     let p = scaled_fits c.args.datatype _ _ c.args.raw e (raw-fits _ _ _ _ e c.requires) in
-    (omega arith, omega arith, omega arith)
+    record { in_range = (omega arith, omega arith, omega arith) }
 
 pub returns-in-Ok-Scaled : goal.returns-in-Ok-Scaled
 unfolding value_of
 returns-in-Ok-Scaled c =
     let e = sym c.coding_of.ensures ∙ c.in-Ok-Scaled.is ∙ ap Ok c.in-Ok-Scaled.field-0-is in
-    c.integer_value.ensures ∙ ap (λ (x : Result Coding Refusal). value_by x c.args.raw) (sym e)
+    c.value.ensures ∙ ap (λ (x : Result Coding Refusal). value_by x c.args.raw) (sym e)
 
 pub returns-in-Ok-Float32 : goal.returns-in-Ok-Float32
 unfolding value_of

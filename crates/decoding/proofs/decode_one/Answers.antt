@@ -6,11 +6,11 @@ use Rattle.record.specs.declared.Coding.{Coding}
 use Rattle.record.proofs.Laws.{scaled_fits}
 use Rattle.decoding.proofs.decode_one.Goals as goal
 
-pub scaled-requires : goal.scaled-requires
+pub invariant_of-scaled : goal.invariant_of-scaled
 unfolding width_of
-scaled-requires c =
+invariant_of-scaled c =
     let e = sym c.coding_of.ensures ∙ c.in-Ok-Scaled.is ∙ ap Ok c.in-Ok-Scaled.field-0-is in
-    scaled_fits c.args.datatype _ _ c.args.raw e (rw e at c.requires)
+    record { in_range = scaled_fits c.args.datatype _ _ c.args.raw e (rw e at c.requires) }
 
 pub returns-in-Ok-Scaled : goal.returns-in-Ok-Scaled
 unfolding decode_of

@@ -19,4 +19,4 @@ loop-n-preserved c =
     _
     c.loop-n.invariant
     (omega (arith, c.loop-n.invariant.size, c.loop-n-test.true))
-    (c.scaled.ensures ∙ ap (scaled_of c.args.half c.args.min c.args.max) c.item.ensures.0)
+    (c.scaled.ensures ∙ ap (scaled_of c.args.half c.args.min c.args.max) c.item-raw.ensures.0)

@@ -2,4 +2,4 @@ use Rattle.floats.proofs.Patterns.{finite_pattern}
 use Rattle.floats.proofs.finite_bits.Goals as goal
 
 pub returns : goal.returns
-returns c = finite_pattern c.args.bits
+returns c = rw c.unsigned.ensures (finite_pattern c.args.bits)

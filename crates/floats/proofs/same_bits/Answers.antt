@@ -1,12 +1,14 @@
-use Rattle.std.proofs.Common.{T, sym, subst}
-use Rattle.floats.proofs.Patterns.{equals_itself, same-nan, same_number}
+use Rattle.std.proofs.Common.{◌≡◌, false, T, not, sym, subst, ◌∙◌}
+use lib.Ieee.{is_nan}
+use Rattle.floats.proofs.Patterns.{same-nan, same_number}
 use Rattle.floats.proofs.same_bits.Goals as goal
 
-pub returns-then-x : goal.returns-then-x
-returns-then-x c = same-nan c.args.x c.args.bits c.if-x.true
+pub returns-then-not-is_nan : goal.returns-then-not-is_nan
+returns-then-not-is_nan c =
+    let number : is_nan c.args.x ≡ false = sym c.is_nan.ensures.value ∙ c.if-not-is_nan.true in
+    let plain : T (not (is_nan c.args.x)) = rw number tt in
+    same_number c.args.x c.args.bits (subst T (sym c.well_formed.0.1) tt) plain
 
-pub float_to_bits-result : goal.float_to_bits-result
-float_to_bits-result c = equals_itself c.args.x c.if-x.false
-
-pub returns : goal.returns
-returns c = same_number c.args.x c.args.bits (subst T (sym c.well_formed.0.1) tt) (equals_itself c.args.x c.if-x.false)
+pub returns-else-not-is_nan : goal.returns-else-not-is_nan
+returns-else-not-is_nan c =
+    rw c.if-not-is_nan.false (same-nan c.args.x c.args.bits (sym c.is_nan.ensures.value ∙ c.if-not-is_nan.false))
