@@ -1,374 +1,189 @@
 // The calls of the library, and the lines that say what each answers.
-ghost use Rattle.std.specs.Prelude.{◌≤◌};
+ghost use Rattle.std.specs.Prelude.{◌≤◌, length};
 
-use crate::buffers::{
-    HELD, HELD_FLOATS, fill, floats_within, hash_of, hash_of_floats, pseudo_random, within,
-};
+use crate::buffers::{Filler, HELD, HELD_FLOATS, hash_of, hash_of_floats, pseudo_random};
+use crate::call::{Making, Move, Order};
 use crate::lines::{
-    SHOWN, end_line, float_lines, say, say_done, say_float, say_hash, say_lines, say_number,
-    say_refusal, say_verdict, shown_of,
+    Answer, Bits, Cube, Kind, Step, Word, say_lines,
 };
-use bricks::{Brick, Found, brick_kind, brick_view, brick_view_verdict};
+use bricks::{brick_kind, brick_view, brick_view_verdict};
 use cube::Region;
 use making::{Fill, make};
-use positions::{Located, position};
+use opening::open;
+use positions::position;
 use reading::read_raw;
-use record::{Description, Done, Record, Verdict};
+use record::{Record, Refusal};
 use sampling::read_float;
 use std::io;
-use strings::{Strings, Turn, moved, next, string, strings_of, turn_of};
+use strings::{Strings, moved, next, string, strings_of, turn_of};
 use subtiles::{to_plain, to_subtiled};
 use writing::write;
 
-fn say_brick(rt: &impl Print, brick: Brick) -> io::Result<()> {
-    match brick {
-        Brick::Missing => say(rt, " missing"),
-        Brick::Constant(value) => {
-            say(rt, " constant ")?;
-            say_float(rt, value)
-        }
-        Brick::Stored(offset) => {
-            say(rt, " stored")?;
-            say_number(rt, offset)
-        }
+// Answers up to this many bytes are written out, longer ones only as their hash.
+const SHOWN: usize = 1024;
+
+// What the calls of a list share: the record, how many bytes of the file are lent, the room of the buffers, the seed.
+#[derive(Clone, Copy)]
+pub struct Setting {
+    pub record: Record,
+    pub lent: usize,
+    pub room: usize,
+    pub seed: u64,
+}
+
+// The items of an answer that are written out: none of one with over `most`.
+fn shown<T>(items: &[T], moved: Result<u64, Refusal>, most: usize) -> &[T]
+    ensures { length result.now ≤ most }
+{
+    match moved {
+        Ok(n) if n <= most as u64 => &items[..(n as usize).min(items.len())],
+        _ => &items[..0],
     }
 }
 
-pub fn say_kind(rt: &impl Print, file: &[u8], r: Record, entry: u32) -> io::Result<()> {
-    let found = brick_kind(file, r, entry);
-    match found {
-        Found::Known(brick) => say_brick(rt, brick)?,
-        Found::Refused(refusal) => say_refusal(rt, refusal)?,
+// Opens what is lent. Refused, the record stays.
+pub fn say_opened(rt: &impl Print, file: &[u8], s: &mut Setting) -> io::Result<()> {
+    let cube = open(file);
+    if let Ok(record) = cube {
+        s.record = record;
     }
-    end_line(rt)
+    println!(rt; ": {}", Answer(cube.map(|r| Cube(r))))
 }
 
-fn say_shown(rt: &impl Print, bytes: &[u8]) -> io::Result<()> {
-    say_number(rt, bytes.len() as u64)?;
-    say_hash(rt, hash_of(bytes))?;
-    end_line(rt)
+pub fn say_kind(rt: &impl Print, file: &[u8], s: &Setting, entry: u32) -> io::Result<()> {
+    let brick = brick_kind(file, s.record, entry);
+    println!(rt; ": {}", Answer(brick.map(|b| Kind(b))))
 }
 
-fn say_filled<'a>(
+pub fn say_view(
     rt: &impl Print,
-    file: &'a [u8],
-    filler: &'a [u8],
-    r: Record,
+    file: &[u8],
+    s: &Setting,
     entry: u32,
+    filler: Filler,
 ) -> io::Result<()> {
-    say_verdict(rt, brick_view_verdict(file, filler, r, entry))?;
-    say_shown(rt, brick_view(file, filler, r, entry))
-}
-
-fn say_view_of<'a>(
-    rt: &impl Print,
-    file: &'a [u8],
-    filler: &'a [u8],
-    r: Record,
-    entry: u32,
-    length: usize,
-) -> io::Result<()> {
-    let end = within(length, filler);
-    say_filled(rt, file, &filler[..end], r, entry)
-}
-
-// A view with a filler of so many bytes.
-pub fn say_view(rt: &impl Print, file: &[u8], r: Record, words: [u32; 7]) -> io::Result<()> {
-    let mut filler = [0u8; HELD];
-    fill(&mut filler, words[1], words[2], words[4]);
-    say_view_of(rt, file, &filler, r, words[0], words[3] as usize)
-}
-
-pub fn region_of(words: [u32; 7]) -> Region {
-    Region {
-        level: words[0],
-        start: [words[1], words[2], words[3]],
-        count: [words[4], words[5], words[6]],
-    }
+    let mut buffer = [0u8; HELD];
+    filler.fill(&mut buffer);
+    let lent = &buffer[..(filler.length as usize).min(HELD)];
+    let verdict = brick_view_verdict(file, lent, s.record, entry);
+    let view = brick_view(file, lent, s.record, entry);
+    println!(rt;
+        ": {} {} {:016x}",
+        Answer(verdict.map(|_| "taken")),
+        view.len(),
+        hash_of(view)
+    )
 }
 
 // An answer in bytes: the hash of the whole buffer, and the bytes themselves where they are few.
-fn say_answer(rt: &impl Print, buffer: &[u8], done: Done) -> io::Result<()> {
-    say_done(rt, done)?;
-    say_hash(rt, hash_of(buffer))?;
-    end_line(rt)?;
-    let shown = within(shown_of(done, SHOWN), buffer);
-    say_lines(rt, &buffer[..shown])
-}
-
-fn say_raw_in(
-    rt: &impl Print,
-    buffer: &mut [u8],
-    file: &[u8],
-    r: Record,
-    g: Region,
-) -> io::Result<()> {
-    let done = read_raw(buffer, file, r, g);
-    say_answer(rt, buffer, done)
-}
-
-fn say_raw_of(
-    rt: &impl Print,
-    buffer: &mut [u8],
-    file: &[u8],
-    r: Record,
-    g: Region,
-    room: usize,
-) -> io::Result<()> {
-    let end = within(room, buffer);
-    say_raw_in(rt, &mut buffer[..end], file, r, g)
+fn say_bytes(rt: &impl Print, buffer: &[u8], moved: Result<u64, Refusal>) -> io::Result<()> {
+    let answer = Answer(moved.map(|n| Word("taken", n)));
+    println!(rt; ": {answer} {:016x}", hash_of(buffer))?;
+    say_lines(rt, shown(buffer, moved, SHOWN))
 }
 
 // A raw read into a buffer of so many bytes.
-pub fn say_raw(rt: &impl Print, file: &[u8], r: Record, g: Region, room: usize) -> io::Result<()> {
+pub fn say_raw(rt: &impl Print, file: &[u8], s: &Setting, g: Region) -> io::Result<()> {
     let mut buffer = [165u8; HELD];
-    say_raw_of(rt, &mut buffer, file, r, g, room)
-}
-
-fn say_floats_in(
-    rt: &impl Print,
-    buffer: &mut [f64],
-    file: &[u8],
-    r: Record,
-    g: Region,
-) -> io::Result<()> {
-    let done = read_float(buffer, file, r, g);
-    say_done(rt, done)?;
-    say_hash(rt, hash_of_floats(buffer))?;
-    end_line(rt)?;
-    let shown = floats_within(shown_of(done, SHOWN / 8), buffer);
-    float_lines(rt, &buffer[..shown])
-}
-
-fn say_floats_of(
-    rt: &impl Print,
-    buffer: &mut [f64],
-    file: &[u8],
-    r: Record,
-    g: Region,
-    room: usize,
-) -> io::Result<()> {
-    let end = floats_within(room, buffer);
-    say_floats_in(rt, &mut buffer[..end], file, r, g)
+    let out = &mut buffer[..s.room.min(HELD)];
+    let moved = read_raw(out, file, s.record, g);
+    say_bytes(rt, out, moved)
 }
 
 // A float read into a buffer of so many floats.
-pub fn say_floats(
-    rt: &impl Print,
-    file: &[u8],
-    r: Record,
-    g: Region,
-    room: usize,
-) -> io::Result<()> {
+pub fn say_floats(rt: &impl Print, file: &[u8], s: &Setting, g: Region) -> io::Result<()> {
     let mut buffer = [1.5f64; HELD_FLOATS];
-    say_floats_of(rt, &mut buffer, file, r, g, room)
-}
-
-fn say_write_of(
-    rt: &impl Print,
-    file: &mut [u8],
-    input: &[u8],
-    r: Record,
-    g: Region,
-    room: usize,
-) -> io::Result<()> {
-    let end = within(room, input);
-    say_done(rt, write(file, &input[..end], r, g))?;
-    say_hash(rt, hash_of(file))?;
-    end_line(rt)
+    let out = &mut buffer[..s.room.min(HELD_FLOATS)];
+    let moved = read_float(out, file, s.record, g);
+    let answer = Answer(moved.map(|n| Word("taken", n)));
+    println!(rt; ": {answer} {:016x}", hash_of_floats(out))?;
+    for number in shown(out, moved, SHOWN / 8) {
+        println!(rt; "{}", Bits(*number))?;
+    }
+    Ok(())
 }
 
 // A write of so many pseudo-random bytes, and the hash of the file after it.
-pub fn say_write(
-    rt: &impl Print,
-    file: &mut [u8],
-    r: Record,
-    g: Region,
-    room: usize,
-    seed: u64,
-) -> io::Result<()> {
+pub fn say_write(rt: &impl Print, file: &mut [u8], s: &Setting, g: Region) -> io::Result<()> {
     let mut input = [0u8; HELD];
-    pseudo_random(&mut input, seed);
-    say_write_of(rt, file, &input, r, g, room)
+    pseudo_random(&mut input, s.seed);
+    let moved = write(file, &input[..s.room.min(HELD)], s.record, g);
+    let answer = Answer(moved.map(|n| Word("taken", n)));
+    println!(rt; ": {answer} {:016x}", hash_of(file))
 }
 
-pub fn say_position(rt: &impl Print, r: Record, dimension: u32, index: u32) -> io::Result<()> {
-    let located = position(r, dimension, index);
-    match located {
-        Located::At(x) => {
-            say(rt, " at ")?;
-            say_float(rt, x)?;
-        }
-        Located::Refused(refusal) => say_refusal(rt, refusal)?,
-    }
-    end_line(rt)
+pub fn say_position(rt: &impl Print, s: &Setting, dimension: u32, index: u32) -> io::Result<()> {
+    let place = position(s.record, dimension, index);
+    println!(rt; ": {}", Answer(place.map(|x| Word("at", Bits(x)))))
 }
 
-fn say_turn(rt: &impl Print, turn: Turn) -> io::Result<()> {
-    match turn {
-        Turn::Item { start, end, next } => print!(rt; " item {start} {end} {next}")?,
-        Turn::Done => say(rt, " done")?,
-        Turn::Refused(refusal) => say_refusal(rt, refusal)?,
-    }
-    end_line(rt)
+pub fn say_string(rt: &impl Print, file: &[u8], s: &Setting, n: u32) -> io::Result<()> {
+    let turn = turn_of(file, s.record, n);
+    println!(rt; ": {}", Answer(turn.map(|t| Step(t))))
 }
 
-pub fn say_string(rt: &impl Print, file: &[u8], r: Record, n: u32) -> io::Result<()> {
-    say_turn(rt, turn_of(file, r, n))
-}
-
-// A turn's line, with the walker's verdict, and its string. Answers where the walker stands after it.
-fn say_handed(
-    rt: &impl Print,
-    verdict: Verdict,
-    turn: Turn,
-    bytes: &[u8],
-    at: usize,
-) -> io::Result<usize> {
-    say_verdict(rt, verdict)?;
-    say_turn(rt, turn)?;
-    say_lines(rt, bytes)?;
-    match turn {
-        Turn::Item {
-            start: _,
-            end: _,
-            next,
-        } => Ok(next),
-        _ => Ok(at),
-    }
-}
-
-// A walker after one turn.
+// A turn of a walker, and its string. Answers the walker after it.
 fn walked<'a>(rt: &impl Print, w: Strings<'a>) -> io::Result<Strings<'a>> {
     let turn = next(w);
-    let bytes = string(w);
-    let at = say_handed(rt, w.verdict, turn, bytes, w.at)?;
-    Ok(moved(w, at))
+    println!(rt; " taken {}", Step(turn))?;
+    say_lines(rt, string(w))?;
+    match turn {
+        Some(item) => Ok(moved(w, item.next)),
+        None => Ok(w),
+    }
 }
 
-// The strings of a cube by a walker: five turns hand them out, and the sixth says done.
-pub fn say_strings(rt: &impl Print, file: &[u8], r: Record) -> io::Result<()> {
-    let mut w = strings_of(file, r);
+// Six turns of a walk: five strings, and the sixth says done.
+fn say_walk<'a>(rt: &impl Print, start: Strings<'a>) -> io::Result<()> {
+    let mut w = start;
     for _ in 0..6 {
         w = walked(rt, w)?;
     }
     Ok(())
 }
 
-fn permuted(buffer: &mut [u8], brick: &[u8], side: [u32; 3], width: u32, plain: bool) -> Done {
-    if plain {
-        to_plain(buffer, brick, side, width)
-    } else {
-        to_subtiled(buffer, brick, side, width)
+// The strings of a cube by a walker. One that is refused says so at each turn.
+pub fn say_strings(rt: &impl Print, file: &[u8], s: &Setting) -> io::Result<()> {
+    print!(rt; ":")?;
+    match strings_of(file, s.record) {
+        Ok(start) => say_walk(rt, start),
+        Err(refusal) => {
+            let refused: Answer<&'static str> = Answer(Err(refusal));
+            for _ in 0..6 {
+                println!(rt; " {refused} {refused}")?;
+            }
+            Ok(())
+        }
     }
-}
-
-fn say_permuted_in(
-    rt: &impl Print,
-    buffer: &mut [u8],
-    brick: &[u8],
-    words: [u32; 7],
-    plain: bool,
-) -> io::Result<()> {
-    let side = [words[0], words[1], words[2]];
-    let done = permuted(buffer, brick, side, words[3], plain);
-    say_answer(rt, buffer, done)
-}
-
-fn say_permuted_of(
-    rt: &impl Print,
-    buffer: &mut [u8],
-    brick: &[u8],
-    words: [u32; 7],
-    plain: bool,
-) -> io::Result<()> {
-    let length = within(words[4] as usize, brick);
-    let room = within(words[5] as usize, buffer);
-    say_permuted_in(rt, &mut buffer[..room], &brick[..length], words, plain)
 }
 
 // A brick of pseudo-random bytes in plain order, or in the version 1 order.
-pub fn say_permuted(rt: &impl Print, words: [u32; 7], seed: u64, plain: bool) -> io::Result<()> {
-    let mut brick = [0u8; HELD];
+pub fn say_permuted(rt: &impl Print, s: &Setting, m: Move) -> io::Result<()> {
+    let mut bytes = [0u8; HELD];
     let mut buffer = [165u8; HELD];
-    pseudo_random(&mut brick, seed);
-    say_permuted_of(rt, &mut buffer, &brick, words, plain)
+    pseudo_random(&mut bytes, s.seed);
+    let brick = &bytes[..(m.length as usize).min(HELD)];
+    let out = &mut buffer[..(m.room as usize).min(HELD)];
+    let done = match m.order {
+        Order::Plain => to_plain(out, brick, m.side, m.width),
+        Order::Subtiled => to_subtiled(out, brick, m.side, m.width),
+    };
+    say_bytes(rt, out, done)
 }
 
-// What the bricks of a made cube are, by number.
-fn fill_of(n: u32) -> Fill {
-    if n == 0 { Fill::Constant } else { Fill::Stored }
-}
-
-// The answer of make, and how many bytes it says are the cube's.
-fn say_made(rt: &impl Print, made: Done) -> io::Result<usize> {
-    match made {
-        Done::Taken(n) => {
-            say(rt, " length")?;
-            say_number(rt, n)?;
-            Ok(n as usize)
-        }
-        Done::Refused(refusal) => {
-            say_refusal(rt, refusal)?;
-            Ok(0)
-        }
-    }
-}
-
-// The end of the part that starts at a place, as long as asked for where there is so much.
-fn part_end(at: usize, length: usize, most: usize) -> usize
-    requires { at ≤ most }
-    ensures { (at ≤ result) × (result ≤ most) }
-{
-    if length < most - at {
-        at + length
+// A cube made from a description, and from a part of the file as its text. It is written out whole.
+pub fn say_made(rt: &impl Print, held: &[u8], s: &Setting, making: Making) -> io::Result<()> {
+    let mut buffer = [165u8; HELD];
+    let out = &mut buffer[..s.room.min(HELD)];
+    let tail = &held[(making.start as usize).min(held.len())..];
+    let text = &tail[..(making.length as usize).min(tail.len())];
+    let fill = if making.fill == 0 {
+        Fill::Constant
     } else {
-        most
-    }
-}
-
-fn say_make_in(
-    rt: &impl Print,
-    buffer: &mut [u8],
-    text: &[u8],
-    d: Description,
-    fill: Fill,
-) -> io::Result<()> {
-    let made = make(buffer, d, text, fill);
-    let count = within(say_made(rt, made)?, buffer);
-    say_hash(rt, hash_of(buffer))?;
-    end_line(rt)?;
-    say_lines(rt, &buffer[..count])
-}
-
-fn say_make_of(
-    rt: &impl Print,
-    buffer: &mut [u8],
-    held: &[u8],
-    d: Description,
-    words: [u32; 7],
-    room: usize,
-) -> io::Result<()> {
-    let end = within(room, buffer);
-    let from = within(words[1] as usize, held);
-    let to = part_end(from, words[2] as usize, held.len());
-    say_make_in(
-        rt,
-        &mut buffer[..end],
-        &held[from..to],
-        d,
-        fill_of(words[0]),
-    )
-}
-
-// A cube made from a description, and from a part of the file as its text.
-pub fn say_make(
-    rt: &impl Print,
-    held: &[u8],
-    d: Description,
-    words: [u32; 7],
-    room: usize,
-) -> io::Result<()> {
-    let mut buffer = [165u8; HELD];
-    say_make_of(rt, &mut buffer, held, d, words, room)
+        Fill::Stored
+    };
+    let made = make(out, s.record.description, text, fill);
+    let answer = Answer(made.map(|n| Word("length", n)));
+    println!(rt; ": {answer} {:016x}", hash_of(out))?;
+    say_lines(rt, shown(out, made, HELD))
 }
