@@ -7,7 +7,7 @@ use native.Mathlib.Omega.{arith}
 use lib.ListN.{length}
 use borrow.Author.Tests.{le-leb, lt-leb, leb-false}
 use Rattle.record.specs.Types.{coding_of, width_of}
-use Rattle.record.specs.Record.{brick_bytes_of}
+use Rattle.record.specs.Record.{brick_bytes_of, header_of}
 use Rattle.record.specs.declared.Coding.{Coding}
 use Rattle.record.specs.declared.Record.{Record}
 use Rattle.record.specs.declared.Refusal.{Refusal}
@@ -38,6 +38,9 @@ pub entry_in_lem : (r : Record) (t : Table) (f : List ℕ) (e : ℕ) → t ≡ t
     → Readable t (length f) × (e < t.count)
 entry_in_lem r t f e is-t fit l h =
     (readable r t is-t (fits_derived r (fits-is r fit)) (length f) (omega (arith, fit.header_is, fit.long)), omega (arith, fit.bricks-is, count-is r t is-t))
+
+pub fit_made : (r : Record) (f : List ℕ) → Fit r → r.length ≡ length f → Derived r × (header_of r.description r.text ≤ length f)
+fit_made r f fit l = (fits_derived r (fits-is r fit), omega (arith, fit.header_is, fit.long))
 
 -- ---- the verdict by its cases
 module _ (r : Record) (f : List ℕ) (e : ℕ) where
@@ -82,6 +85,9 @@ seen r f e t =
 module _ (r : Record) (f : List ℕ) (e : ℕ) (s : Seen r f e) where
   pub seen_derived : Derived r
   seen_derived = fits_derived r (fits-is r s.fit)
+
+  pub seen_made : Derived r × (header_of r.description r.text ≤ length f)
+  seen_made = fit_made r f s.fit s.length-is
 
   pub seen_in : (t : Table) → t ≡ table_in r → Readable t (length f) × (e < t.count)
   seen_in t is-t = entry_in_lem r t f e is-t s.fit s.length-is s.below

@@ -15,7 +15,7 @@ use cube::missing_brick;
 use endian::u32_at;
 use floats::{Item, widen_bits};
 use record::{Coding, Record, Refusal, coding_of};
-use table::{Kind, kind_at, out_of_range, table_in};
+use table::{Entries, Kind, table_in};
 
 // What a brick is. A constant is the storage value, unscaled; a stored brick has its offset in the file.
 #[derive(Clone, Copy)]
@@ -35,7 +35,7 @@ fn check_entry(file: &[u8], r: Record, entry: u32) -> Result<(), Refusal>
     if r.bricks <= entry {
         return Err(Refusal::Index);
     }
-    if out_of_range(file, table_in(r), entry as usize) {
+    if Entries::of(file, r).is_out_of_range(entry as usize) {
         return Err(Refusal::Range(entry));
     }
     Ok(())
@@ -46,7 +46,7 @@ fn kind_of_entry(file: &[u8], r: Record, entry: u32) -> Result<Kind, Refusal>
     ensures { result ≡ answered (kind_verdict r file.now entry) (kind_in r file.now entry) }
 {
     check_entry(file, r, entry)?;
-    Ok(kind_at(file, table_in(r), entry as usize))
+    Ok(Entries::of(file, r).kind(entry as usize))
 }
 
 // The storage value of a constant as a float, unscaled.
@@ -151,9 +151,9 @@ fn shown<'a>(file: &'a [u8], filler: &'a [u8], r: Record, entry: u32) -> &'a [u8
     requires { view_verdict r file.now filler.now entry ≡ Taken }
     ensures { Shows (view_of r file.now filler.now entry) file.entry filler.entry result }
 {
-    let t = table_in(r);
-    let bytes = t.brick as usize;
-    match kind_at(file, t, entry as usize) {
+    let entries = Entries::of(file, r);
+    let bytes = entries.table.brick as usize;
+    match entries.kind(entry as usize) {
         Kind::Missing => &filler[0..bytes],
         Kind::Constant(_) => &filler[0..bytes],
         Kind::Stored(offset) => {

@@ -162,7 +162,8 @@ impl<'a> Entries<'a> {
             .is_some_and(|other| near(brick, other, offset)))
     }
 
-    // The lowest entry below limit that overlaps a lower one, pair by pair.
+    // The lowest entry below limit that overlaps a lower one, pair by pair. Not inline: its loops then keep all registers.
+    #[inline(never)]
     fn first_pair(&self, limit: usize) -> Option<usize>
         requires { limit ≤ self.now.table.count }
         ensures { result ≡ lowest (overlaps_at self.now.table self.now.file.now) limit }

@@ -25,7 +25,7 @@ use record::{Description, Record, Refusal, no_record};
 use sampling::read_float;
 use strings::turn_of;
 use subtiles::{to_plain, to_subtiled};
-use table::{Kind, kind_at, table_in};
+use table::{Entries, Kind};
 use writing::write;
 
 // What opening answers; a refusal stands beside a record of zeros.
@@ -276,8 +276,8 @@ pub extern "C" fn zgy_brick_view(file: &[u8], filler: &[u8], r: Record, entry: u
 {
     match brick_view_verdict(file, filler, r, entry) {
         Ok(()) => {
-            let t = table_in(r);
-            part(kind_at(file, t, entry as usize), t.brick)
+            let entries = Entries::of(file, r);
+            part(entries.kind(entry as usize), entries.table.brick)
         }
         Err(x) => nowhere(x),
     }
