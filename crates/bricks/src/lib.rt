@@ -134,12 +134,7 @@ fn check_shown(filler: &[u8], r: Record, kind: Kind) -> Result<(), Refusal>
 }
 
 // Whether brick view shows the brick of an entry: checks 14, 16 and 12, then 18 and 17 where it would show the filler.
-pub fn brick_view_verdict(
-    file: &[u8],
-    filler: &[u8],
-    r: Record,
-    entry: u32,
-) -> Result<(), Refusal>
+pub fn brick_view_verdict(file: &[u8], filler: &[u8], r: Record, entry: u32) -> Result<(), Refusal>
     ensures { result ≡ view_verdict r file.now filler.now entry }
 {
     let kind = kind_of_entry(file, r, entry)?;

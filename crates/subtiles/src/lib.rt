@@ -80,7 +80,13 @@ fn move_runs(out: &mut [u8], brick: &[u8], plain: bool, n1: usize, runs: usize, 
 }
 
 // The move in either direction: the checks, then the runs, into the front of the buffer.
-fn permute(out: &mut [u8], brick: &[u8], side: [u32; 3], width: u32, plain: bool) -> Result<u64, Refusal>
+fn permute(
+    out: &mut [u8],
+    brick: &[u8],
+    side: [u32; 3],
+    width: u32,
+    plain: bool,
+) -> Result<u64, Refusal>
     ensures value { result ≡ permute_answer side width (length brick.now) (length out.old) }
     ensures out_after { out.new ≡ buffer_after (permute_answer side width (length brick.now) (length out.old)) (moved_in plain side width brick.now) out.old }
 {

@@ -3,9 +3,7 @@ ghost use Rattle.std.specs.Prelude.{◌≤◌, length};
 
 use crate::buffers::{Filler, HELD, HELD_FLOATS, hash_of, hash_of_floats, pseudo_random};
 use crate::call::{Making, Move, Order};
-use crate::lines::{
-    Answer, Bits, Cube, Kind, Step, Word, say_lines,
-};
+use crate::lines::{Answer, Bits, Cube, Kind, Step, Word, say_lines};
 use bricks::{brick_kind, brick_view, brick_view_verdict};
 use cube::Region;
 use making::{Fill, make};

@@ -39,5 +39,4 @@ returns c =
     filled_is _ _ c.args.value c.repeated.result (described-width _ _ p)
     (rw (width_is _ _ c.table_in-t.ensures) at c.repeated.ensures) _ _ _
     (λ i. (c.type_inv.filler i).fits) (omega (arith, c.repeated.type_inv)) (rw brick (brick_words _ _ p)) c.same_words.ensures in
-    
     sym (filler_17 _ _ _ (omega (arith, brick)) (sym judged ∙ c.if-same_words.false))
