@@ -13,7 +13,7 @@ use endian::{u8_at, u16_at, u32_at};
 use floats::{Item, widen_bits};
 use record::{Coding, coding_of};
 
-// The unsigned number of an item of 1, 2 or 4 bytes. Called with a literal width, it is one load.
+// The unsigned number of an item of 1, 2 or 4 bytes. Called with a literal width, it is one load. Each width has its own type to read by.
 fn item(bytes: &[u8], at: usize, width: usize) -> u32
     requires { Width width × (at + width ≤ length bytes.now) }
     ensures { (result ≡ le width bytes.now at) × (result < 256 ^ width) }
@@ -36,7 +36,8 @@ fn decode_scaled(out: &mut [f64], bytes: &[u8], width: usize, half: u32, min: f6
     }
 }
 
-// Items of the float type, widened.
+// Items of the float type, widened. A loop of its own: one over a closure for the item would promise only what the closure's contract says of
+// each float, and not the float itself.
 fn decode_widened(out: &mut [f64], bytes: &[u8], width: usize)
     requires { Width width × (length bytes.now ≡ length out.old * width) }
     ensures { out.new ≡ cat (length out.old) (λ n. widened_of (le width bytes.now (n * width)) ∷ []) }

@@ -128,7 +128,7 @@ fn push_current_fields(out: &mut Writer, d: Description)
     push_zeros(out, 32);
 }
 
-// The bits of inc x size in each direction.
+// The bits of inc x size in each direction. What the checks say of a description stands at each function after them: it may be lent in any state.
 fn survey_sizes(d: Description) -> [u32; 3]
     requires { Measured d }
     ensures { result ≡ survey_sizes d }

@@ -268,7 +268,8 @@ pub fn grid_of(d: Description) -> Grid
     }
 }
 
-// Levels, bricks and alpha tiles.
+// Levels, bricks and alpha tiles. That sizes and sides keep the limits stands at each function that counts with them, since a description is
+// lent before checks 4 and 6 have judged it.
 pub fn shape_in(d: Description) -> Shape
     requires { Sized d }
     ensures { result ≡ shape_of (count_of d 0) (count_of d 1) (count_of d 2) }

@@ -58,7 +58,8 @@ fn in_extent(r: Record, g: Region) -> bool
         & run_inside(g.start[2], g.count[2], size[2], g.level)
 }
 
-// The room that a by b by c samples take, of `item` each.
+// The room that a by b by c samples take, of `item` each. `item` is a width in bytes or 1, so its bound stands at each of the three functions
+// that take it: a type of its own would be made of every width first.
 fn room_for(a: u32, b: u32, c: u32, item: u32) -> u64
     requires { (a ≤ size_limit) × (b ≤ size_limit) × (c ≤ size_limit) × (item ≤ 4) }
     ensures { result ≡ a * b * c * item }
@@ -88,7 +89,8 @@ fn bricks_along(side: u32, start: u32, count: u32) -> Along
     }
 }
 
-// The entries that a region touches.
+// The entries that a region touches. That checks 14, 15 and 16 have passed stands at each function after them: it is a fact of a record and a
+// region that a caller may lend in any state, and no type that it must have.
 fn block_of(r: Record, g: Region) -> Block
     requires { Passed r g }
     ensures { result ≡ block_of r g }
@@ -118,7 +120,8 @@ fn is_stored(kind: Kind) -> bool
     }
 }
 
-// An entry fails check 19, or check 12.
+// An entry fails check 19, or check 12. Which of the two is a bool and no closure: of a closure the contracts could say only what its own
+// says, and not which check it is.
 fn entry_fails(file: &[u8], t: Table, entry: u64, stored: bool) -> bool
     requires { Readable t (length file.now) × (entry < t.count) }
     ensures { result ≡ fails stored t file.now entry }

@@ -26,7 +26,8 @@ fn breaks_20(side: [u32; 3], width: u32) -> bool
 }
 
 // A run is the items of one column (i, j). Both orders keep them together, so that a run moves as a whole.
-// The number in the version 1 order of run r of the plain order: 64 runs a subtile, n1 / 8 subtiles in a row of them.
+// The number in the version 1 order of run r of the plain order: 64 runs a subtile, n1 / 8 subtiles in a row of them. The bounds of n1 and r
+// stand at each of the three functions: a type for the pair would be made anew for every run of the loop.
 fn tiled_run(n1: usize, r: usize) -> usize
     requires { (8 ≤ n1) × (n1 ≤ side_room) × (r < side_room * side_room) }
     ensures { result ≡ tiled_run n1 r }
@@ -52,7 +53,8 @@ fn plain_run(n1: usize, r: usize) -> usize
     i * n1 + j
 }
 
-// Where run r is taken from, on the way to plain order or back.
+// Where run r is taken from, on the way to plain order or back. The way is a bool and no closure: of a closure the promise of the moved brick
+// could say only what the closure's own contract says.
 fn source_run(plain: bool, n1: usize, r: usize) -> usize
     requires { (8 ≤ n1) × (n1 ≤ side_room) × (r < side_room * side_room) }
     ensures { result ≡ source_run plain n1 r }

@@ -84,7 +84,8 @@ impl Kind {
     }
 }
 
-// The entries of a table that lies in this file.
+// The entries of a table that lies in this file. That an entry is one of them stands at each method: its number comes from a caller, and is a
+// plain number in the table, the records and the calls.
 #[derive(Clone, Copy)]
 pub struct Entries<'a> {
     pub file: &'a [u8],

@@ -162,6 +162,7 @@ impl From<Result<Record, Refusal>> for ZgyOpened {
     }
 }
 
+// The kind of bricks is a number here, as are a brick's kind, a view's source and whether a string was found: C has no enum with fields.
 fn fill_of(fill: u32) -> Fill
     ensures { result ≡ fill_c fill }
 {
