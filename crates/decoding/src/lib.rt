@@ -25,14 +25,19 @@ fn item(bytes: &[u8], at: usize, width: usize) -> u32
     }
 }
 
-// Items of an integer type, scaled to the coding range: half is 128 for int8 and 32768 for int16.
-fn decode_scaled(out: &mut [f64], bytes: &[u8], width: usize, half: u32, min: f64, max: f64)
-    requires { Integers width half × (length bytes.now ≡ length out.old * width) }
-    ensures { out.new ≡ cat (length out.old) (λ n. scaled_of half min max (le width bytes.now (n * width)) ∷ []) }
+// Items of an integer type, scaled to the coding range: HALF is 128 for int8 and 32768 for int16.
+fn decode_scaled<const WIDTH: usize, const HALF: u32>(
+    out: &mut [f64],
+    bytes: &[u8],
+    min: f64,
+    max: f64,
+)
+    requires { Integers WIDTH HALF × (length bytes.now ≡ length out.old * WIDTH) }
+    ensures { out.new ≡ cat (length out.old) (λ n. scaled_of HALF min max (le WIDTH bytes.now (n * WIDTH)) ∷ []) }
 {
     for n in 0..out.len() {
-        let raw = item(bytes, n * width, width);
-        out[n] = Item { raw, half }.scaled(min, max);
+        let raw = item(bytes, n * WIDTH, WIDTH);
+        out[n] = Item { raw, half: HALF }.scaled(min, max);
     }
 }
 
@@ -56,9 +61,9 @@ pub fn decode(out: &mut [f64], bytes: &[u8], datatype: u8, min: f64, max: f64)
     match coding_of(datatype) {
         Ok(Coding::Scaled { width, half: _ }) => {
             if width == 1 {
-                decode_scaled(out, bytes, 1, 128, min, max);
+                decode_scaled::<1, 128>(out, bytes, min, max);
             } else {
-                decode_scaled(out, bytes, 2, 32768, min, max);
+                decode_scaled::<2, 32768>(out, bytes, min, max);
             }
         }
         Ok(Coding::Float32 { width: _ }) => decode_widened(out, bytes, 4),

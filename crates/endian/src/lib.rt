@@ -51,10 +51,8 @@ fn copy_bytes(out: &mut [u8], src: &[u8])
     requires { length src.now ≡ length out.old }
     ensures { out.new ≡ src.now }
 {
-    let mut t = 0;
-    while t < out.len() {
-        out[t] = src[t];
-        t += 1;
+    for (t, to) in out.iter_mut().enumerate() {
+        *to = src[t];
     }
 }
 
@@ -90,15 +88,15 @@ fn copy_blocks(out: &mut [u8], src: &[u8], size: usize)
     ensures { out.new ≡ src.now }
 {
     let last = out.len() - size;
-    let mut t = 0;
-    while t < last {
+    for t in (0..last).step_by(size) {
         copy_block(out, src, t, size);
-        t += size;
     }
     copy_block(out, src, last, size);
 }
 
-// The copying leaf. Each size is a literal, so that the loop is compiled for it: a run below 64 bytes is two blocks at most.
+// The copying leaf. Each size is a literal, so that the loop is compiled for it: a run below 64 bytes is two blocks at most. The library's
+// copy_from_slice calls memcpy: with it 3 x 3 x 3 samples took an eighth to a quarter longer to read, and sections of small bricks a third to a
+// half. With the size as a const parameter, and a piece as an array of it, such sections took up to a third longer.
 pub fn copy(out: &mut [u8], src: &[u8])
     requires { length src.now ≡ length out.old }
     ensures { out.new ≡ src.now }

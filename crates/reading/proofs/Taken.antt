@@ -11,8 +11,8 @@ use Rattle.cube.specs.Regions.{size_of, raw_rows, raw_verdict}
 use Rattle.cube.proofs.Regions.{Passed, raw_passed}
 use Rattle.cube.proofs.Rows.{passed_length}
 use Rattle.runs.specs.declared.Lattice.{Lattice}
-use Rattle.runs.specs.Runs.{lattice_of, Allowed, Ready, Laid}
-use Rattle.runs.proofs.Steps.{allowed, ready, laid}
+use Rattle.runs.specs.Runs.{lattice_of, Allowed, Ready, Laid, Holds}
+use Rattle.runs.proofs.Steps.{allowed, ready, laid, some_held}
 use Rattle.runs.proofs.Sizes.{Sizes, sizes}
 
 module _ (r : Record) (f : List ℕ) (g : Region) (room : ℕ) (e : raw_verdict r f g room ≡ Taken) where
@@ -24,6 +24,9 @@ module _ (r : Record) (f : List ℕ) (g : Region) (room : ℕ) (e : raw_verdict 
 
   pub taken_long : length (raw_rows r (rows_of r f) g) ≡ size_of g * item_bytes r
   taken_long = passed_length r f g _ _ passed
+
+  pub taken_some : Holds g 0 0 0
+  taken_some = some_held r f g _ _ passed
 
   module _ (q : Lattice) (is : q ≡ lattice_of r g) where
     pub taken_laid : Laid r g q

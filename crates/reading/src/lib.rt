@@ -30,36 +30,34 @@ fn put_value(out: &mut [u8], value: u32, w: usize)
     ensures { out.new ≡ lows w value }
 {
     let mut x = value;
-    let mut t = 0;
-    while t < w {
+    for t in 0..w {
         out[t] = (x % 256) as u8;
-        x = x / 256;
-        t += 1;
+        x /= 256;
     }
 }
 
-// n items of one value.
-fn fill(out: &mut [u8], value: u32, n: usize, w: usize)
-    requires { length out.old ≡ n * w }
-    ensures { out.new ≡ cat n (λ t. lows w value) }
+// n items of one value, each of W bytes. The end of each is counted by hand: after `chunks_exact_mut` a proof knows no byte of a chunk.
+fn fill<const W: usize>(out: &mut [u8], value: u32, n: usize)
+    requires { length out.old ≡ n * W }
+    ensures { out.new ≡ cat n (λ t. lows W value) }
 {
     let mut a = 0;
     for t in 0..n {
-        let e = a + w;
-        put_value(&mut out[a..e], value, w);
+        let e = a + W;
+        put_value(&mut out[a..e], value, W);
         a = e;
     }
 }
 
-// The same. Each width is a number in the code, so that the compiler makes a loop of its own for it.
+// The same for a width that a record says, which has a loop of its own.
 fn fill_items(out: &mut [u8], value: u32, n: usize, w: usize)
     requires { Width w × (length out.old ≡ n * w) }
     ensures { out.new ≡ cat n (λ t. lows w value) }
 {
     match w {
-        1 => fill(out, value, n, 1),
-        2 => fill(out, value, n, 2),
-        _ => fill(out, value, n, 4),
+        1 => fill::<1>(out, value, n),
+        2 => fill::<2>(out, value, n),
+        _ => fill::<4>(out, value, n),
     }
 }
 

@@ -1,35 +1,41 @@
 -- What a site knows of its samples. Assumes nothing.
-use Prim.Native.Nat.{ℕ, ◌+◌, ◌<◌}
+use Prim.Native.Nat.{ℕ, ◌+◌, ◌-◌, ◌%◌, ◌<◌}
 use mathlib.Core.Bool.{true}
-use mathlib.Core.Path.{◌≡◌}
+use mathlib.Core.Path.{◌≡◌, ap}
 use native.Mathlib.Omega.{arith}
 use Rattle.checks.specs.Checks.{side_ok}
-use Rattle.cube.specs.Regions.{run_of}
+use Rattle.checks.proofs.Described.{described_sides}
+use Rattle.checks.proofs.Records.{fits_all}
+use Rattle.record.specs.Record.{side_of}
+use Rattle.cube.specs.Places.{Inside}
+use Rattle.cube.specs.Regions.{start_of, place}
 use Rattle.runs.specs.declared.Lattice.{Lattice}
 use Rattle.runs.specs.declared.site.Site.{Site}
 use Rattle.runs.specs.declared.site.View.{View}
-use Rattle.runs.specs.Runs.{Holds, Placed}
+use Rattle.runs.specs.Runs.{lattice_of, Placed}
 use Rattle.runs.proofs.Lattices.{Numbers, numbers}
 use Rattle.runs.proofs.Steps.{counts}
 use Rattle.runs.proofs.Rows.{numbers_at}
 
-module _ (s : Site) {i j k : ℕ} (h : Holds s.region.now i j k) where
+module _ (s : Site) {i j k : ℕ} (h : Inside s.record.now (place s.region.now i j k)) where
   pub site_placed : Placed s.record.now s.region.now s.lattice i j k
-  site_placed = record { laid = s.laid.laid; fitting = s.laid.fitting; inside = s.laid.inside i j k h.inline h.crossline h.vertical }
+  site_placed = record { laid = s.laid.laid; fitting = s.laid.fitting; inside = h }
 
   pub site_numbers : Numbers s.lattice i j k
   site_numbers = numbers s.record.now s.region.now s.lattice i j k site_placed
 
--- k past the start of the region's first vertical run
-module _ (s : Site) {k : ℕ} (h : k < run_of s.region.now 2) where
-  first : Holds s.region.now 0 0 k
-  first = record { inline = s.laid.some.inline; crossline = s.laid.some.crossline; vertical = h }
+-- a brick's sides, and what `left` answers along the vertical
+module _ (s : Site) where
+  pub site_side : side_ok s.lattice.side2 ≡ true
+  unfolding lattice_of
+  site_side =
+      let e : s.lattice.side2 ≡ side_of s.record.now.description 2 = ap (λ (x : Lattice). x.side2) s.laid.laid in
+      rw e (described_sides _ _ (fits_all s.record.now s.laid.fitting).is-described).2
 
-  pub below_placed : Placed s.record.now s.region.now s.lattice 0 0 k
-  below_placed = site_placed s first
-
-  pub below_numbers : Numbers s.lattice 0 0 k
-  below_numbers = site_numbers s first
+  pub site_left : (k : ℕ) → s.lattice.side2 - (s.lattice.start2 + k) % s.lattice.side2
+      ≡ side_of s.record.now.description 2 - (start_of s.region.now 2 + k) % side_of s.record.now.description 2
+  unfolding lattice_of
+  site_left k = ap (λ (x : Lattice). x.side2 - (x.start2 + k) % x.side2) s.laid.laid
 
 -- what a walk asks along each direction, and what `left` answers there
 module _ (v : View) where
@@ -42,7 +48,7 @@ module _ (v : View) where
       numbers_at v.ready i j k (omega (arith, n)) (omega (arith, n)) (omega (arith, n))
 
   some_of : (0 < grid.count0) × (0 < grid.count1) × (0 < grid.count2)
-  some_of = let n = counts _ _ _ _ v.ready in let s = v.site.laid.some in (omega (arith, n, s.inline), omega (arith, n, s.crossline), omega (arith, n, s.vertical))
+  some_of = let n = counts _ _ _ _ v.ready in let s = v.some in (omega (arith, n, s.inline), omega (arith, n, s.crossline), omega (arith, n, s.vertical))
 
   pub asks0 : {at : ℕ} → at < grid.count0 → (side_ok grid.side0 ≡ true) × (grid.start0 + at < 4294967296)
   asks0 {at} h = let n = numbers_from at 0 0 h some_of.1 some_of.2 in (n.ok0, omega (arith, n.at0))

@@ -21,7 +21,7 @@ use Rattle.cube.proofs.Places.{sides, brick-lt}
 use Rattle.cube.proofs.Regions.{Passed, touched_fits, all-inside}
 use Rattle.cube.proofs.Writes.{Kept, kept_kind}
 use Rattle.runs.specs.declared.Lattice.{Lattice}
-use Rattle.runs.specs.Runs.{lattice_of, Allowed, Placed, Ready, Laid}
+use Rattle.runs.specs.Runs.{lattice_of, Allowed, Placed, Ready, Laid, Holds}
 
 -- ---- from the verdict to the loops
 
@@ -49,15 +49,10 @@ module _ (r : Record) (f : List ℕ) (g : Region) (room need : ℕ) (h : Passed 
       }
 
   pub laid : (q : Lattice) → q ≡ lattice_of r g → Laid r g q
-  laid q e =
-      let a = ready q e in
-      record {
-        laid = e;
-        fitting = a.fitting;
-        some = record { inline = omega (arith, h.region.run0); crossline = omega (arith, h.region.run1); vertical = omega (arith, h.region.run2) };
-        few = a.few;
-        inside = a.inside;
-      }
+  laid q e = record { laid = e; fitting = fits-is r h.lent.fit }
+
+  pub some_held : Holds g 0 0 0
+  some_held = record { inline = omega (arith, h.region.run0); crossline = omega (arith, h.region.run1); vertical = omega (arith, h.region.run2) }
 
 module _ (r : Record) (f : List ℕ) (g : Region) (q : Lattice) (h : Ready r f g q) where
   pub ready_fit : Fit r

@@ -67,10 +67,7 @@ pub record Holds (g : Region) (i j k : ℕ) : Type 0 where
   pub crossline : j < run_of g 1
   pub vertical : k < run_of g 2
 
--- what a taken verdict leaves of the region: the lattice is its own, and it has samples, all of which lie in the level's bricks
+-- the lattice is the region's, of a record that fits together
 pub record Laid (r : Record) (g : Region) (q : Lattice) : Type 0 where
   pub laid : q ≡ lattice_of r g
   pub fitting : record_fits r ≡ true
-  pub some : Holds g 0 0 0
-  pub few : (run_of g 0 ≤ size_limit) × (run_of g 1 ≤ size_limit) × (run_of g 2 ≤ size_limit)
-  pub inside : (i j k : ℕ) → i < run_of g 0 → j < run_of g 1 → k < run_of g 2 → Inside r (place g i j k)

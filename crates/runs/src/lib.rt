@@ -36,6 +36,7 @@ pub struct Lattice {
     pub count2: usize,
 }
 
+// A number of 32 bits as an index. `usize` has no From of it, and a cast alone leaves its bound to each caller.
 pub fn index(x: u32) -> usize
     ensures { (result ≡ x) × (result < 4294967296) }
 {

@@ -1,8 +1,8 @@
-// A region that the checks took, among the bricks of its level, and in a file.
+// A region among the bricks of its level, and in a file.
 ghost use Rattle.std.specs.Prelude.{◌≡◌, ◌+◌, ◌-◌, ◌%◌, ◌<◌, min, length};
 ghost use Rattle.record.specs.Record.{side_of};
-ghost use Rattle.cube.specs.Places.{brick_of, item_no, kind_in};
-ghost use Rattle.cube.specs.Regions.{start_of, run_of, place};
+ghost use Rattle.cube.specs.Places.{Inside, brick_of, item_no, kind_in};
+ghost use Rattle.cube.specs.Regions.{start_of, place};
 ghost use Rattle.runs.specs.Runs.{Laid, Ready, Holds};
 
 use crate::{Lattice, beyond, left, over};
@@ -20,12 +20,13 @@ pub struct Site<'a> {
     pub ghost laid: { Laid record.now region.now lattice },
 }
 
-// The same, and the file that it is read from.
+// A region that the checks took, which has samples, and the file that it is read from.
 #[derive(Clone, Copy)]
 pub struct View<'a, 'f> {
     pub site: Site<'a>,
     pub file: &'f [u8],
     pub ghost ready: { Ready site.record.now file.now site.region.now site.lattice },
+    pub ghost some: { Holds site.region.now 0 0 0 },
 }
 
 // So many samples in a direction, from one on.
@@ -53,7 +54,7 @@ pub struct Corner {
 impl<'a> Site<'a> {
     // The entry of the brick that holds a sample of the region.
     fn entry(&self, i: usize, j: usize, k: usize) -> usize
-        requires { Holds self.now.region.now i j k }
+        requires { Inside self.now.record.now (place self.now.region.now i j k) }
         ensures { result ≡ brick_of self.now.record.now (place self.now.region.now i j k) }
     {
         let q = self.lattice;
@@ -65,7 +66,7 @@ impl<'a> Site<'a> {
 
     // What the brick that holds a sample of the region is.
     pub fn kind(&self, file: &[u8], i: usize, j: usize, k: usize) -> Kind
-        requires sample { Holds self.now.region.now i j k }
+        requires inside { Inside self.now.record.now (place self.now.region.now i j k) }
         requires same_length { self.now.record.now.length ≡ length file.now }
         ensures { result ≡ kind_in self.now.record.now file.now (brick_of self.now.record.now (place self.now.region.now i j k)) }
     {
@@ -74,7 +75,7 @@ impl<'a> Site<'a> {
 
     // A sample's item number in its brick: vertical runs fastest.
     pub fn item(&self, i: usize, j: usize, k: usize) -> usize
-        requires { Holds self.now.region.now i j k }
+        requires { Inside self.now.record.now (place self.now.region.now i j k) }
         ensures { result ≡ item_no self.now.record.now (place self.now.region.now i j k) }
     {
         let q = self.lattice;
@@ -86,7 +87,7 @@ impl<'a> Site<'a> {
 
     // How many of the next n samples of a vertical run lie in the brick of the first, which is k past the region's start.
     pub fn down(&self, k: usize, n: usize) -> usize
-        requires { k < run_of self.now.region.now 2 }
+        requires { self.now.lattice.start2 + k < 4294967296 }
         ensures { result ≡ min (side_of self.now.record.now.description 2 - (start_of self.now.region.now 2 + k) % side_of self.now.record.now.description 2) n }
     {
         left(self.lattice.start2, k, self.lattice.side2, n)

@@ -10,8 +10,8 @@ use Rattle.cube.specs.declared.Region.{Region}
 use Rattle.cube.specs.Regions.{run_of, size_of, float_verdict}
 use Rattle.cube.proofs.Regions.{Passed, float_passed}
 use Rattle.runs.specs.declared.Lattice.{Lattice}
-use Rattle.runs.specs.Runs.{lattice_of, Allowed, Ready, Laid}
-use Rattle.runs.proofs.Steps.{allowed, ready, laid, counts}
+use Rattle.runs.specs.Runs.{lattice_of, Allowed, Ready, Laid, Holds}
+use Rattle.runs.proofs.Steps.{allowed, ready, laid, some_held, counts}
 use Rattle.runs.proofs.Products.{le-mul-left}
 
 module _ (r : Record) (f : List ℕ) (g : Region) (room : ℕ) (e : float_verdict r f g room ≡ Taken) where
@@ -20,6 +20,9 @@ module _ (r : Record) (f : List ℕ) (g : Region) (room : ℕ) (e : float_verdic
 
   pub taken_allowed : Allowed r g
   taken_allowed = allowed r f g room (size_of g) passed
+
+  pub taken_some : Holds g 0 0 0
+  taken_some = some_held r f g room (size_of g) passed
 
   module _ (q : Lattice) (is : q ≡ lattice_of r g) where
     pub taken-ready : Ready r f g q

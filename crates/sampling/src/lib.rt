@@ -91,32 +91,33 @@ fn read_rows(out: &mut [f64], v: &View, range: Range, corner: Corner, i: usize, 
     }
 }
 
-// n items of w bytes, each of them step bytes after the one before, put one after the other.
-fn gather(out: &mut [u8], file: &[u8], from: usize, step: usize, n: usize, w: usize)
-    requires out_len { length out.old ≡ n * w }
-    requires by_index { (t : ℕ) → t < n → from + t * step + w ≤ length file.now }
-    ensures { out.new ≡ cat n (λ t. peek file.now (from + t * step) w) }
+// n items of W bytes, each of them step bytes after the one before, put one after the other. The end of each is counted by hand:
+// after `chunks_exact_mut` a proof knows no byte of a chunk.
+fn gather<const W: usize>(out: &mut [u8], file: &[u8], from: usize, step: usize, n: usize)
+    requires out_len { length out.old ≡ n * W }
+    requires by_index { (t : ℕ) → t < n → from + t * step + W ≤ length file.now }
+    ensures { out.new ≡ cat n (λ t. peek file.now (from + t * step) W) }
 {
     let mut a = 0;
     for t in 0..n {
-        let e = a + w;
+        let e = a + W;
         let p = from + t * step;
-        let pe = p + w;
+        let pe = p + W;
         copy(&mut out[a..e], &file[p..pe]);
         a = e;
     }
 }
 
-// The same. Each width is a number in the code, so that an item is one load and one store.
+// The same for a width that a record says. Each has a loop of its own, in which an item is one load and one store.
 fn gather_items(out: &mut [u8], file: &[u8], from: usize, step: usize, n: usize, w: usize)
     requires width { Width w × (length out.old ≡ n * w) }
     requires by_index { (t : ℕ) → t < n → from + t * step + w ≤ length file.now }
     ensures { out.new ≡ cat n (λ t. peek file.now (from + t * step) w) }
 {
     match w {
-        1 => gather(out, file, from, step, n, 1),
-        2 => gather(out, file, from, step, n, 2),
-        _ => gather(out, file, from, step, n, 4),
+        1 => gather::<1>(out, file, from, step, n),
+        2 => gather::<2>(out, file, from, step, n),
+        _ => gather::<4>(out, file, from, step, n),
     }
 }
 

@@ -215,6 +215,3 @@ module _ (os : ℕ → ℕ) (b lo i : ℕ) (cells : List ℕ) (t : Filled os b l
   stop limit g h =
       let r = t.real h.0 h.1.left in
       record { clear = λ m j. λ q k. cl m q j k; hit = (g, r.0, r.1, rw (r.2, ← e) h.1) }
-
-pub done : (os : ℕ → ℕ) (b lo i limit : ℕ) → Clear os b lo i → i ≡ limit → Scanned os b lo limit None
-done os b lo i limit cl e = record { clear = λ m j q k. cl m (omega arith) j k; hit = tt }

@@ -3,7 +3,6 @@ use Rattle.std.specs.Option.{IfSome}
 use Rattle.std.proofs.Common.{Some, None}
 use Rattle.std.proofs.lemmas.Option.{same_Some, none-some}
 use mathlib.Core.Path.{◌≡◌, refl, sym, ap, ◌∙◌}
-use mathlib.Core.Logic.{⊎_elim}
 use mathlib.Core.List.{List}
 use Prim.Native.Nat.{ℕ, ◌+◌, ◌*◌, ◌%◌, ◌^◌, ◌≤◌, ◌<◌}
 use native.Mathlib.Decide.{ℕ_discrete, dec_le}
@@ -15,12 +14,8 @@ use Rattle.endian.proofs.Bytes.{le_same}
 use Rattle.table.specs.declared.Kind.{Kind}
 use Rattle.table.specs.declared.Kind.TheVariants.{Missing, Constant, Stored}
 use Rattle.table.specs.declared.Table.{Table}
-use Rattle.table.specs.Entries.{kind_of, offset_in, stored_in, word_at, kind_at, Width}
+use Rattle.table.specs.Entries.{kind_of, offset_in, stored_in, word_at, kind_at}
 use Rattle.table.specs.Windows.{offset_at}
-
-pub other_width : (w : ℕ) → Width w → (w ≡ 1 → ⊥) → (w ≡ 2 → ⊥) → w ≡ 4
-other_width w h not-1 not-2 =
-    ⊎_elim (λ (e : w ≡ 1). absurd (not-1 e)) (λ r. ⊎_elim (λ (e : w ≡ 2). absurd (not-2 e)) (λ (e : w ≡ 4). e) r) h
 
 -- the cases of a word
 pub kind_missing : (w v : ℕ) → v ≡ 0 → kind_of w v ≡ Missing
@@ -105,10 +100,6 @@ module _ (t : Table) (f : List ℕ) (e : ℕ) where
       go Missing s = refl
       go (Constant v) s = refl
       go (Stored p) s = absurd (none-some p (sym s))
-
-  pub offset_kind : (k : Kind) → kind_at t f e ≡ k → offset_in k ≡ offset_at t f e
-  unfolding offset_at
-  offset_kind k s = ap offset_in (sym s)
 
   pub offset_stored : 0 < offset_at t f e → kind_at t f e ≡ Stored (offset_at t f e)
   unfolding offset_at

@@ -31,7 +31,7 @@ pub record Touched (cells : List ℕ) (c b o : ℕ) (r : Bool) : Type 0 where
   pub found : r ≡ true → (s : ℕ) × Near b (get_or cells s 0) o
   pub none : r ≡ false → (s : ℕ) → c ≤ s → s ≤ c + 2 → Near b (get_or cells s 0) o → ⊥
 
--- r is the lowest of the first n offsets that is stored and at lo or after it, and none where none is
+-- r is at lo or after it, and no stored offset of the first n lies between lo and r; there is no r only where none lies at lo or after it
 abbrev pub NextStart : (ℕ → ℕ) → ℕ → ℕ → Option ℕ → Type 0
 NextStart os n lo None = (k : ℕ) → k < n → 0 < os k → os k < lo
 NextStart os n lo (Some r) = (lo ≤ r) × ((k : ℕ) → k < n → 0 < os k → lo ≤ os k → r ≤ os k)

@@ -163,8 +163,7 @@ impl<'a> Entries<'a> {
             .is_some_and(|other| near(brick, other, offset)))
     }
 
-    // The lowest entry below limit that overlaps a lower one, pair by pair. Not inline: its loops then keep all registers.
-    #[inline(never)]
+    // The lowest entry below limit that overlaps a lower one, pair by pair.
     fn first_pair(&self, limit: usize) -> Option<usize>
         requires { limit ≤ self.now.table.count }
         ensures { result ≡ lowest (overlaps_at self.now.table self.now.file.now) limit }
@@ -216,6 +215,8 @@ impl<'a> Entries<'a> {
     // The file is searched one window after the other, each 16,382 bricks long. They step by a brick less, so that two
     // neighbouring cells are in one window whole. Only a vast and sparse file has more than 128 windows with a brick
     // in them: there the entries below the best so far are searched pair by pair, which bounds the time for any file.
+    // Not inline: apart from its caller its loops keep their registers.
+    #[inline(never)]
     pub fn lowest_overlap(&self) -> Option<usize>
         requires bricks { 0 < self.now.table.brick }
         requires in_range { lowest (outside_at self.now.table self.now.file.now) self.now.table.count ≡ None }

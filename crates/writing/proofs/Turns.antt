@@ -15,7 +15,7 @@ use Rattle.endian.proofs.Digits.{next_item}
 use Rattle.record.specs.Record.{side_of}
 use Rattle.record.specs.declared.Record.{Record}
 use Rattle.cube.specs.declared.Region.{Region}
-use Rattle.cube.specs.Places.{item_bytes, kind_in, brick_of, item_no, byte_of}
+use Rattle.cube.specs.Places.{item_bytes, Inside, kind_in, brick_of, item_no, byte_of}
 use Rattle.table.specs.Entries.{offset_in}
 use Rattle.cube.specs.Regions.{start_of, run_of, place, size_of}
 use Rattle.endian.proofs.Cats.{up-add, up_same}
@@ -25,8 +25,8 @@ use Rattle.cube.proofs.Regions.{Held}
 use Rattle.cube.proofs.Runs.{run_write}
 use Rattle.cube.proofs.Writes.{Kept, kept_refl}
 use Rattle.runs.specs.declared.Lattice.{Lattice}
-use Rattle.runs.specs.Runs.{Holds}
-use Rattle.runs.proofs.Steps.{ready_fit, counts, ready-width, Step, step, step_fits}
+use Rattle.runs.proofs.Lattices.{numbers}
+use Rattle.runs.proofs.Steps.{ready_fit, placed, counts, ready-width, Step, step, step_fits}
 use Rattle.writing.specs.Writes.{sample_to, Writable}
 use Rattle.writing.proofs.Keeps.{fit_in, covers-all, run_kept, writable_kept}
 
@@ -91,8 +91,11 @@ module _ {r : Record} {f₀ f : List ℕ} {g : Region} {q : Lattice} {d : List �
   pub turn_here : k < run_of g 2
   turn_here = omega (arith, (counts r f₀ g q h.ready).2, more)
 
-  pub turn_holds : Holds g i j k
-  turn_holds = record { inline = hi; crossline = hj; vertical = turn_here }
+  pub turn_inside : Inside r (place g i j k)
+  turn_inside = h.ready.inside i j k hi hj turn_here
+
+  pub turn_near : q.start2 + k < 4294967296
+  turn_near = omega (arith, (numbers r g q i j k (placed r f₀ g q h.ready i j k hi hj turn_here)).at2)
 
   pub turn_still : Writable r f g q d
   turn_still =

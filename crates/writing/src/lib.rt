@@ -6,11 +6,10 @@ ghost use Rattle.std.specs.Prelude.{◌≡◌, ◌+◌, ◌*◌, ◌≤◌, ◌<
 ghost use Rattle.endian.specs.Loops.{tri};
 ghost use Rattle.endian.specs.Bytes.{peek, put};
 ghost use Rattle.record.specs.Answers.{Taken};
-ghost use Rattle.cube.specs.Places.{item_bytes, kind_in, brick_of};
+ghost use Rattle.cube.specs.Places.{item_bytes, Inside, kind_in, brick_of};
 ghost use Rattle.cube.specs.Calls.{Call, answer_of, cube_after};
 ghost use Rattle.table.specs.Entries.{offset_in};
 ghost use Rattle.cube.specs.Regions.{run_of, place, size_of, written, write_verdict};
-ghost use Rattle.runs.specs.Runs.{Holds};
 ghost use Rattle.writing.specs.Writes.{run_to, plane_to, IsWritable};
 
 use cube::Region;
@@ -23,16 +22,11 @@ use table::Kind;
 
 // Where the brick that holds a sample of the region is stored.
 fn offset_on(file: &[u8], site: &Site, i: usize, j: usize, k: usize) -> u64
-    requires sample { Holds site.now.region.now i j k }
+    requires inside { Inside site.now.record.now (place site.now.region.now i j k) }
     requires same_length { site.now.record.now.length ≡ length file.now }
     ensures { result ≡ offset_in (kind_in site.now.record.now file.now (brick_of site.now.record.now (place site.now.region.now i j k))) }
 {
-    let kind = site.kind(file, i, j, k);
-    match kind {
-        Kind::Missing => 0,
-        Kind::Constant(_) => 0,
-        Kind::Stored(offset) => offset,
-    }
+    site.kind(file, i, j, k).offset().unwrap_or(0)
 }
 
 // n items into a brick at this offset, from this item on: the input's bytes from a on.
@@ -55,7 +49,7 @@ fn write_items(
     copy(&mut file[p..e], &input[a..b]);
 }
 
-// One vertical run, cut at the bricks' faces: the input's bytes from `at` on.
+// One vertical run, cut at the bricks' faces: the input's bytes from `at` on. A turn goes as far as the brick, which no range says.
 fn write_run(file: &mut [u8], input: &[u8], site: &Site, i: usize, j: usize, at: usize)
     requires writable { IsWritable site.now file.old input.now }
     requires i_bound { (i < run_of site.now.region.now 0) × (j < run_of site.now.region.now 1) × (at ≡ tri (run_of site.now.region.now 1) (run_of site.now.region.now 2) i j 0 * item_bytes site.now.record.now) }

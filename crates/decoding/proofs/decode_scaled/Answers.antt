@@ -10,13 +10,13 @@ use Rattle.decoding.proofs.decode_scaled.Goals as goal
 
 pub loop-n-init : goal.loop-n-init
 unfolding cat
-loop-n-init c = filled_none _
+loop-n-init g c = filled_none _
 
 pub loop-n-preserved : goal.loop-n-preserved
-loop-n-preserved c =
+loop-n-preserved g c =
     items_more
-    (λ n. scaled_of c.args.half c.args.min c.args.max (le c.args.width c.args.bytes.now (n * c.args.width)))
+    (λ n. scaled_of g.row.HALF c.args.min c.args.max (le g.row.WIDTH c.args.bytes.now (n * g.row.WIDTH)))
     _
     c.loop-n.invariant
     (omega (arith, c.loop-n.invariant.size, c.loop-n-test.true))
-    (c.scaled.ensures ∙ ap (scaled_of c.args.half c.args.min c.args.max) c.item-raw.ensures.0)
+    (c.scaled.ensures ∙ ap (scaled_of g.row.HALF c.args.min c.args.max) c.item-raw.ensures.0)

@@ -8,4 +8,4 @@ use Rattle.endian.proofs.Parts.{Filled}
 use Rattle.decoding.proofs.decode_scaled.Given as goal
 
 abbrev pub invariant-loop-n : goal.invariant-loop-n
-invariant-loop-n l = Filled l.initial.out (cat l.n (λ k. scaled_of l.half l.min l.max (le l.width l.bytes (k * l.width)) ∷ [])) l.out l.n
+invariant-loop-n g l = Filled l.initial.out (cat l.n (λ k. scaled_of g.row.HALF l.min l.max (le g.row.WIDTH l.bytes (k * g.row.WIDTH)) ∷ [])) l.out l.n

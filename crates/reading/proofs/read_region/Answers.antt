@@ -6,7 +6,7 @@ use Rattle.cube.specs.Regions.{raw_rows}
 use Rattle.cube.specs.Places.{rows_of, raw_of}
 use Rattle.cube.proofs.Rows.{by_place}
 use Rattle.runs.proofs.Answers.{front_over}
-use Rattle.reading.proofs.Taken.{taken_allowed, taken_long, taken_laid, taken_ready, taken_sizes}
+use Rattle.reading.proofs.Taken.{taken_allowed, taken_long, taken_laid, taken_ready, taken_some, taken_sizes}
 use Rattle.reading.proofs.read_region.Goals as goal
 
 pub lattice_of-q-requires : goal.lattice_of-q-requires
@@ -31,7 +31,7 @@ pub invariant_of-site : goal.invariant_of-site
 invariant_of-site c = record { laid = taken_laid c.args.r c.args.file.now c.args.g (length c.args.out.now) c.requires _ c.lattice_of-q.ensures }
 
 pub invariant_of-read_bricks : goal.invariant_of-read_bricks
-invariant_of-read_bricks c = record { ready = taken_ready c.args.r c.args.file.now c.args.g (length c.args.out.now) c.requires _ c.lattice_of-q.ensures }
+invariant_of-read_bricks c = record { ready = taken_ready c.args.r c.args.file.now c.args.g (length c.args.out.now) c.requires _ c.lattice_of-q.ensures; some = taken_some c.args.r c.args.file.now c.args.g (length c.args.out.now) c.requires }
 
 pub read_bricks-requires : goal.read_bricks-requires
 read_bricks-requires c =

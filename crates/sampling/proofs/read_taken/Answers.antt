@@ -8,7 +8,7 @@ use Rattle.cube.specs.Places.{rows_of, float_of}
 use Rattle.cube.specs.Regions.{float_rows}
 use Rattle.cube.proofs.Rows.{by_place}
 use Rattle.runs.proofs.Answers.{front_over}
-use Rattle.sampling.proofs.Taken.{taken_allowed, taken_laid, taken-ready, whole_is, plane_fits, whole-fits}
+use Rattle.sampling.proofs.Taken.{taken_allowed, taken_laid, taken-ready, taken_some, whole_is, plane_fits, whole-fits}
 use Rattle.sampling.proofs.read_taken.Goals as goal
 
 pub lattice_of-q-requires : goal.lattice_of-q-requires
@@ -30,7 +30,7 @@ pub invariant_of-site : goal.invariant_of-site
 invariant_of-site c = record { laid = taken_laid c.args.r c.args.file.now c.args.g (length c.args.out.now) c.requires c.lattice_of-q.result c.lattice_of-q.ensures }
 
 pub invariant_of-read_bricks : goal.invariant_of-read_bricks
-invariant_of-read_bricks c = record { ready = taken-ready c.args.r c.args.file.now c.args.g (length c.args.out.now) c.requires c.lattice_of-q.result c.lattice_of-q.ensures }
+invariant_of-read_bricks c = record { ready = taken-ready c.args.r c.args.file.now c.args.g (length c.args.out.now) c.requires c.lattice_of-q.result c.lattice_of-q.ensures; some = taken_some c.args.r c.args.file.now c.args.g (length c.args.out.now) c.requires }
 
 pub read_bricks-requires : goal.read_bricks-requires
 read_bricks-requires c =

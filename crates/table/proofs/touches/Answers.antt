@@ -10,4 +10,5 @@ returns c =
     let b = c.args.brick in
     let o = c.args.offset in
     touched _ c.args.c b o c.any.result c.requires.0 c.told-cells
-    (cases_from_any _ _ _ (λ v. Near b v o) (λ v. Near b v o → ⊥) c.any.ensures.ran (YieldsList-from_slice _ c.iter.ensures.rest) (λ x q k. search (rules, tests, near_yes)) (λ x q k. search (rules, tests, near_not)))
+    (cases_from_any _ _ _ (λ v. Near b v o) (λ v. Near b v o → ⊥) c.any.ensures.ran (YieldsList-from_slice _ c.iter.ensures.rest)
+    (λ x q k. search (rules, tests, near_yes)) (λ x q k. search (rules, tests, near_not)))

@@ -5,7 +5,7 @@ use Rattle.endian.specs.Loops.{up, tri}
 use Rattle.cube.specs.Regions.{run_of}
 use Rattle.runs.proofs.Steps.{counts, ready-width}
 use Rattle.writing.specs.Writes.{sample_to}
-use Rattle.writing.proofs.Turns.{turn_here, turn_holds, turn_still, turn_step, turn_fits, turn_more}
+use Rattle.writing.proofs.Turns.{turn_near, turn_inside, turn_still, turn_step, turn_fits, turn_more}
 use Rattle.writing.proofs.write_run.Goals as goal
 
 pub loop-k-init : goal.loop-k-init
@@ -15,13 +15,13 @@ loop-k-init c =
     (refl, refl, c.requires.i_bound.2 ∙ ap (λ (x : ℕ). tri (run_of c.args.site.now.region.now 1) (run_of c.args.site.now.region.now 2) c.args.i c.args.j 0 * x) (sym width), omega arith)
 
 pub offset_on-offset-requires : goal.offset_on-offset-requires
-offset_on-offset-requires c = record { sample = turn_holds c.requires.writable c.requires.i_bound.0 c.requires.i_bound.1 c.loop-k.invariant.0 c.loop-k-test.true; same_length = (turn_still c.requires.writable c.requires.i_bound.0 c.requires.i_bound.1 c.loop-k.invariant.0 c.loop-k-test.true).ready.same_length }
+offset_on-offset-requires c = record { inside = turn_inside c.requires.writable c.requires.i_bound.0 c.requires.i_bound.1 c.loop-k.invariant.0 c.loop-k-test.true; same_length = (turn_still c.requires.writable c.requires.i_bound.0 c.requires.i_bound.1 c.loop-k.invariant.0 c.loop-k-test.true).ready.same_length }
 
 pub item-item-requires : goal.item-item-requires
-item-item-requires c = turn_holds c.requires.writable c.requires.i_bound.0 c.requires.i_bound.1 c.loop-k.invariant.0 c.loop-k-test.true
+item-item-requires c = turn_inside c.requires.writable c.requires.i_bound.0 c.requires.i_bound.1 c.loop-k.invariant.0 c.loop-k-test.true
 
 pub down-c-requires : goal.down-c-requires
-down-c-requires c = turn_here c.requires.writable c.requires.i_bound.0 c.requires.i_bound.1 c.loop-k.invariant.0 c.loop-k-test.true
+down-c-requires c = turn_near c.requires.writable c.requires.i_bound.0 c.requires.i_bound.1 c.loop-k.invariant.0 c.loop-k-test.true
 
 pub write_items-requires : goal.write_items-requires
 write_items-requires c = turn_fits c.requires.writable c.requires.i_bound.0 c.requires.i_bound.1 c.loop-k.invariant.0 c.loop-k-test.true c.down-c.ensures c.offset_on-offset.ensures c.item-item.ensures c.index-w.ensures.0 c.loop-k.invariant.2

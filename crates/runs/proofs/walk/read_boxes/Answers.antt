@@ -20,7 +20,7 @@ read_box-requires g c =
 pub overflow_add-k : goal.overflow_add-k
 overflow_add-k g c =
     let turn : Along c.args.v.now.site.record.now c.args.v.now.site.region.now 2 c.loop-k.k c.left-nk.result = along2 c.args.v.now.ready _ _ _ c.loop-k-test.true refl c.left-nk.ensures in
-    omega (arith, turn, c.args.v.now.site.laid.few)
+    omega (arith, turn, c.args.v.now.ready.few)
 
 pub loop-k-smaller : goal.loop-k-smaller
 loop-k-smaller g c =

@@ -20,7 +20,7 @@ read_columns-requires g c =
 pub overflow_add-i : goal.overflow_add-i
 overflow_add-i g c =
     let turn : Along c.args.v.now.site.record.now c.args.v.now.site.region.now 0 c.loop-i.i c.left-ni.result = along0 c.args.v.now.ready _ _ _ c.loop-i-test.true refl c.left-ni.ensures in
-    omega (arith, turn, c.args.v.now.site.laid.few)
+    omega (arith, turn, c.args.v.now.ready.few)
 
 pub loop-i-smaller : goal.loop-i-smaller
 loop-i-smaller g c =

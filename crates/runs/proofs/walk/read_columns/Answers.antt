@@ -20,7 +20,7 @@ read_column-requires g c =
 pub overflow_add-j : goal.overflow_add-j
 overflow_add-j g c =
     let turn : Along c.args.v.now.site.record.now c.args.v.now.site.region.now 1 c.loop-j.j c.left-nj.result = along1 c.args.v.now.ready _ _ _ c.loop-j-test.true refl c.left-nj.ensures in
-    omega (arith, turn, c.args.v.now.site.laid.few)
+    omega (arith, turn, c.args.v.now.ready.few)
 
 pub loop-j-smaller : goal.loop-j-smaller
 loop-j-smaller g c =

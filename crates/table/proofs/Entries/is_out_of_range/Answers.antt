@@ -8,7 +8,8 @@ pub returns : goal.returns
 returns c =
     let t = c.args.self.now.table in
     let f = c.args.self.now.file.now in
-    let by_offset : MatchOption c.offset.result (c.is_some_and.result ≡ false) (λ o. c.is_some_and.result ≡ (nat_lt o t.header || nat_lt (length f) (o + t.brick))) =
+    let by_offset : MatchOption c.offset.result (c.is_some_and.result ≡ false)
+    (λ o. c.is_some_and.result ≡ (nat_lt o t.header || nat_lt (length f) (o + t.brick))) =
     search (rules, tests)
     in
     out_stored _ _ _ _ _ (rw c.offset.ensures.offset at by_offset) ∙ outside_kind t f c.args.entry (kind_at t f c.args.entry) refl

@@ -20,9 +20,11 @@ loop-preserved c =
     let os = offset_at t c.args.self.now.file.now in
     let l = c.loop in
     let s = rw c.unwrap_or-limit.ensures at c.scan.ensures in
-    let left = left_window os t.count t.brick l.start c.scan.result l.best s l.invariant.hit c.saturating_add.result (omega (arith, c.saturating_add.ensures)) l.invariant.left in
+    let left = left_window os t.count t.brick l.start c.scan.result l.best s l.invariant.hit c.saturating_add.result
+    (omega (arith, c.saturating_add.ensures)) l.invariant.left in
     let hit = hit_window os t.count t.brick l.start c.scan.result l.best s l.invariant.hit in
-    rw c.or-best.ensures (record { left = left_next os t.count t.brick c.saturating_add.result _ c.in-Some.next (hit_le os t.brick t.count _ hit) left c.in-Some.ensures; hit = hit })
+    let later = left_next os t.count t.brick c.saturating_add.result _ c.in-Some.next (hit_le os t.brick t.count _ hit) left c.in-Some.ensures in
+    rw c.or-best.ensures (record { left = later; hit = hit })
 
 pub returns-in-None : goal.returns-in-None
 returns-in-None c =
@@ -31,7 +33,8 @@ returns-in-None c =
     let os = offset_at t f in
     let l = c.loop in
     let s = rw c.unwrap_or-limit.ensures at c.scan.ensures in
-    let left = left_window os t.count t.brick l.start c.scan.result l.best s l.invariant.hit c.saturating_add.result (omega (arith, c.saturating_add.ensures)) l.invariant.left in
+    let left = left_window os t.count t.brick l.start c.scan.result l.best s l.invariant.hit c.saturating_add.result
+    (omega (arith, c.saturating_add.ensures)) l.invariant.left in
     let hit = hit_window os t.count t.brick l.start c.scan.result l.best s l.invariant.hit in
     c.or-best.ensures ∙ lowest_overlap-is t f t.count (option_or c.scan.result l.best)
     (left_end os t.count t.brick c.saturating_add.result _ (hit_le os t.brick t.count _ hit) left c.in-None.ensures)

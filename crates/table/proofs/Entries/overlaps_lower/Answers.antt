@@ -15,5 +15,6 @@ unfolding overlaps_at
 returns c =
     let t = c.args.self.now.table in
     let kinds = kind_at t c.args.self.now.file.now in
-    any_from_yields_List (λ l. hits t.brick (stored_in (kinds l)) c.in-Some.offset) _ _ _ c.any.ensures.ran (YieldsList-from_range 0 c.args.entry c.args.entry (cc) (omega arith)) (λ x b q k. search (rules, tests))
+    any_from_yields_List (λ l. hits t.brick (stored_in (kinds l)) c.in-Some.offset) _ _ _ c.any.ensures.ran
+    (YieldsList-from_range 0 c.args.entry c.args.entry (cc) (omega arith)) (λ x b q k. search (rules, tests))
     ∙ lower_any t.brick kinds c.args.entry c.in-Some.offset (sym c.offset.ensures.offset ∙ c.in-Some.is)

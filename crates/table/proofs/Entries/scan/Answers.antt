@@ -14,7 +14,8 @@ returns-then-touches c =
     let f = c.args.self.now.file.now in
     let l = c.loop-entry in
     let e = stored_offset t f l.entry c.in-Some.offset (sym c.offset.ensures.offset ∙ c.in-Some.is) in
-    stop (offset_at t f) t.brick c.args.start l.entry l.cells l.invariant.0 l.invariant.1 c.in-Some.offset (sym e) c.args.limit (omega arith) (c.touches.ensures.found c.if-touches.true)
+    stop (offset_at t f) t.brick c.args.start l.entry l.cells l.invariant.0 l.invariant.1 c.in-Some.offset (sym e)
+    c.args.limit (omega arith) (c.touches.ensures.found c.if-touches.true)
 
 pub loop-entry-preserved : goal.loop-entry-preserved
 loop-entry-preserved c =
