@@ -2,12 +2,11 @@
 // that it is its definition as it stands.
 #![tactic(auto)]
 
-ghost use Rattle.std.specs.Prelude.{◌≡◌, Bool, not, ◌&&◌, ◌≤◌, ◌<◌, length};
+ghost use Rattle.std.specs.Prelude.{◌≡◌, not, ◌&&◌, ◌≤◌, ◌<◌, length};
 ghost use Rattle.geometry.specs.Limits.{longest_text};
 ghost use Rattle.floats.specs.Rules.{finite_bits};
 ghost use Rattle.record.specs.Record.{Sized};
-ghost use Rattle.record.specs.Answers.{Taken};
-ghost use Rattle.checks.specs.Checks.{all3, side_ok, size_ok, breaks2, breaks3, breaks4, verdict5, breaks6, breaks7, breaks8, breaks9, breaks11, zeros, fields_fit, described};
+ghost use Rattle.checks.specs.Checks.{all3, side_ok, size_ok, breaks2, breaks3, breaks4, breaks6, breaks7, breaks8, breaks9, breaks11, zeros, fields_fit, described};
 ghost use Rattle.checks.specs.Fits.{same3, grid_fits, numbers_fit, record_fits, breaks14, breaks14_with};
 
 use floats::{finite_bits, range_ok, same_bits};

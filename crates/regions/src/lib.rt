@@ -9,7 +9,6 @@ ghost use Rattle.geometry.specs.Geometry.{extent};
 ghost use Rattle.record.specs.declared.Refusal.TheVariants as refusal;
 ghost use Rattle.runs.specs.Runs.{Allowed};
 ghost use Rattle.checks.specs.Checks.{side_ok};
-ghost use Rattle.checks.specs.Fits.{record_fits};
 ghost use Rattle.table.specs.Entries.{breaks12, Readable};
 ghost use Rattle.cube.specs.Regions.{size_of, in_extent, touches, unless_touched, is_stored, region_verdict, raw_verdict, float_verdict, write_verdict};
 ghost use Rattle.regions.specs.Search.{fails, row_from, layer_from, entries_in, LayerBelow, Below, along_of, block_of, Passed, rest};

@@ -18,7 +18,6 @@ use record::{Record, Refusal};
 use regions::write_verdict;
 use runs::site::Site;
 use runs::{index, lattice_of};
-use table::Kind;
 
 // Where the brick that holds a sample of the region is stored.
 fn offset_on(file: &[u8], site: &Site, i: usize, j: usize, k: usize) -> u64
