@@ -86,7 +86,7 @@ fn read_items(
     }
 }
 
-// The rows of a box on one inline.
+// The rows of a box on one inline. The buffer's room stands at each function, as in the walk: it is lent apart from the view.
 fn read_rows(out: &mut [u8], v: &View, corner: Corner, i: usize, j: Span, k: Span)
     requires room { Roomy item_bytes v.now out.old }
     requires rows { IsRowCorner v.now corner i j k }

@@ -31,7 +31,8 @@ pub trait Reader {
         ensures { Filled width sample v.now b.i b.j b.k out.old out.new };
 }
 
-// The boxes of the bricks one above the other.
+// The boxes of the bricks one above the other. What the reader was made for and the room of the buffer stand at each loop: the buffer is written
+// and the view is not, so they are lent apart, and only a call brings them together.
 fn read_boxes<R: Reader>(out: &mut [R::Element], v: &View, reader: &R, i: Span, j: Span)
     requires fits { R.fits reader.now v.now.site.record.now }
     requires room { Roomy R.width v.now out.old }

@@ -24,7 +24,7 @@ use Rattle.table.specs.declared.Kind.{Kind}
 use Rattle.table.specs.declared.Kind.TheVariants.{Missing, Constant, Stored}
 use Rattle.cube.specs.declared.Region.{Region}
 use Rattle.cube.specs.declared.MissingBrick.{MissingBrick}
-use Rattle.cube.specs.Places.{item_bytes, kind_in, brick_of, item_no, rows_of, float_of, missing_brick}
+use Rattle.cube.specs.Places.{item_bytes, rows_of, float_of, missing_brick}
 use Rattle.cube.specs.Regions.{run_of, place, size_of}
 use Rattle.runs.specs.declared.Lattice.{Lattice}
 use Rattle.runs.specs.Runs.{lattice_of, Ready}

@@ -48,7 +48,8 @@ fn missing_floats(out: &mut [f64], missing: MissingBrick)
     fill_floats(out, missing.float);
 }
 
-// As many samples as out has room for, from the corner's item of its brick on.
+// As many samples as out has room for, from the corner's item of its brick on. The range is the record's, worked out once for a call; it stands
+// beside the view, which raw reads share.
 fn read_items(out: &mut [f64], v: &View, range: Range, corner: Corner)
     requires range { range ≡ range_of v.now.site.record.now }
     requires constant { (n : ℕ) → corner.kind ≡ Constant n → n < 256 ^ item_bytes v.now.site.record.now }

@@ -68,7 +68,8 @@ fn write_run(file: &mut [u8], input: &[u8], site: &Site, i: usize, j: usize, at:
     }
 }
 
-// The runs of one inline, of `run` bytes each.
+// The runs of one inline, of `run` bytes each. Their places are added up: that a sum fits follows from the run before, a product needs a proof of
+// its own. That a write may store stands at each loop, since it speaks of the file as the loop finds it.
 fn write_plane(file: &mut [u8], input: &[u8], site: &Site, i: usize, run: usize, at: usize)
     requires writable { IsWritable site.now file.old input.now }
     requires i_bound { (i < run_of site.now.region.now 0) × (run ≡ run_of site.now.region.now 2 * item_bytes site.now.record.now) × (at ≡ tri (run_of site.now.region.now 1) (run_of site.now.region.now 2) i 0 0 * item_bytes site.now.record.now) }

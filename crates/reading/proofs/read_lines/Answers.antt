@@ -42,10 +42,14 @@ read_items-requires c =
     record { width = (asks.0, omega arith); by_index = asks.1 }
 
 pub loop-t-preserved : goal.loop-t-preserved
-loop-t-preserved c = (line_box c.requires.corner.0 c.index-w.ensures.0 c.requires.room c.loop-t.invariant.0 c.loop-t-test.true c.read_items.ensures, omega arith)
+loop-t-preserved c = (
+  line_box c.requires.corner.0 c.index-w.ensures.0 c.requires.room c.loop-t.invariant.0 c.loop-t-test.true c.read_items.ensures,
+  omega arith,
+)
 
 pub returns : goal.returns
 returns c =
     let e : c.loop-t.t ≡ c.args.b.i.n = omega arith in
-    let box : ℕ → Type 0 = λ n. RawBox c.args.v.now.site.record.now c.args.v.now.file.now c.args.v.now.site.region.now c.args.b.i.at c.args.b.i.n c.args.b.j.at n c.args.b.k.at c.args.b.k.n c.args.out.now c.loop-t.out in
+    let box : ℕ → Type 0 = λ n. RawBox c.args.v.now.site.record.now c.args.v.now.file.now c.args.v.now.site.region.now c.args.b.i.at c.args.b.i.n
+    c.args.b.j.at n c.args.b.k.at c.args.b.k.n c.args.out.now c.loop-t.out in
     subst box (sym c.requires.corner.1) (rw e at c.loop-t.invariant.0)

@@ -14,7 +14,12 @@ pub overflow_add-on : goal.overflow_add-on
 overflow_add-on c = omega (arith, inline-small c.requires.corner c.loop-t-test.true)
 
 pub read_rows-requires : goal.read_rows-requires
-read_rows-requires c = record { range = c.requires.range; room = c.loop-t.invariant.0.size ∙ c.requires.room; rows = inline_at c.requires.corner c.loop-t-test.true }
+read_rows-requires c = record {
+  range = c.requires.range;
+  room = c.loop-t.invariant.0.size ∙ c.requires.room;
+  rows = inline_at c.requires.corner
+      c.loop-t-test.true;
+}
 
 pub loop-t-preserved : goal.loop-t-preserved
 loop-t-preserved c = (boxed_more0 c.loop-t.invariant.0 c.read_rows.ensures, omega arith)

@@ -33,7 +33,12 @@ overflow_add-row c = omega (arith, turn_small c.requires.rows c.loop-t-test.true
 pub read_items-requires : goal.read_items-requires
 read_items-requires c =
     let long = lent _ _ c.loop-t.out (turn_at c.requires.rows (c.loop-t.invariant.0.size ∙ c.requires.room) c.loop-t-test.true).end in
-    record { range = c.requires.range; constant = corner_constant c.requires.rows; stored = λ o e. rw long (turn_stored c.requires.rows c.loop-t-test.true o e) }
+    record {
+      range = c.requires.range;
+      constant = corner_constant c.requires.rows;
+      stored = λ o e. rw long (turn_stored c.requires.rows
+          c.loop-t-test.true o e);
+    }
 
 pub loop-t-preserved : goal.loop-t-preserved
 loop-t-preserved c =

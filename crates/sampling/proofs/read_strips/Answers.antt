@@ -21,7 +21,12 @@ pub offset_bounds-out-a : goal.offset_bounds-out-a
 offset_bounds-out-a c = omega (arith, turn_room c.requires.corner.0 c.requires.corner.1 c.requires.room c.loop-t-test.true, c.loop-t.invariant.0.size, c)
 
 pub slice_bounds-read_strip-end : goal.slice_bounds-read_strip-end
-slice_bounds-read_strip-end c = omega (arith, turn_room c.requires.corner.0 c.requires.corner.1 c.requires.room c.loop-t-test.true, c.loop-t.invariant.0.size, c)
+slice_bounds-read_strip-end c = omega (
+  arith,
+  turn_room c.requires.corner.0 c.requires.corner.1 c.requires.room c.loop-t-test.true,
+  c.loop-t.invariant.0.size,
+  c,
+)
 
 pub overflow_mul-on : goal.overflow_mul-on
 overflow_mul-on c = omega (arith, inline-small c.requires.corner.0 c.loop-t-test.true)

@@ -14,10 +14,10 @@ loop-j-init c = (writes-none _ _ _ _, c.requires.i_bound.2)
 
 pub write_run-requires : goal.write_run-requires
 write_run-requires c =
-    let count : c.args.site.now.lattice.count1 ≡ run_of c.args.site.now.region.now 1 = (counts c.args.site.now.record.now c.args.file.now c.args.site.now.region.now c.args.site.now.lattice c.requires.writable.ready).1 in
+    let count : c.args.site.now.lattice.count1 ≡ run_of c.args.site.now.region.now 1 = (counts _ _ _ _ c.requires.writable.ready).1 in
     let here : c.loop-j.j < run_of c.args.site.now.region.now 1 = omega (arith, count, c.loop-j-test.true) in
     let still : Writable c.args.site.now.record.now c.loop-j.file c.args.site.now.region.now c.args.site.now.lattice c.args.input.now =
-    writable_kept c.args.site.now.record.now c.args.file.now c.args.site.now.region.now c.args.site.now.lattice c.args.input.now c.requires.writable c.loop-j.file c.loop-j.invariant.0.kept in
+    writable_kept _ _ _ _ _ c.requires.writable c.loop-j.file c.loop-j.invariant.0.kept in
     record {
       writable = still;
       i_bound = (c.requires.i_bound.0, here, c.loop-j.invariant.1);
@@ -25,20 +25,21 @@ write_run-requires c =
 
 pub overflow_add-a : goal.overflow_add-a
 overflow_add-a c =
-    let count : c.args.site.now.lattice.count1 ≡ run_of c.args.site.now.region.now 1 = (counts c.args.site.now.record.now c.args.file.now c.args.site.now.region.now c.args.site.now.lattice c.requires.writable.ready).1 in
+    let count : c.args.site.now.lattice.count1 ≡ run_of c.args.site.now.region.now 1 = (counts _ _ _ _ c.requires.writable.ready).1 in
     let here : c.loop-j.j < run_of c.args.site.now.region.now 1 = omega (arith, count, c.loop-j-test.true) in
-    omega (arith, run_room c.args.site.now.record.now c.args.file.now c.args.site.now.region.now c.args.site.now.lattice c.args.input.now c.requires.writable c.args.i c.requires.i_bound.0 c.loop-j.j here, c.loop-j.invariant.1, c)
+    omega (arith, run_room _ _ _ _ _ c.requires.writable c.args.i c.requires.i_bound.0 c.loop-j.j here, c.loop-j.invariant.1, c)
 
 pub loop-j-preserved : goal.loop-j-preserved
 loop-j-preserved c =
-    let count : c.args.site.now.lattice.count1 ≡ run_of c.args.site.now.region.now 1 = (counts c.args.site.now.record.now c.args.file.now c.args.site.now.region.now c.args.site.now.lattice c.requires.writable.ready).1 in
+    let count : c.args.site.now.lattice.count1 ≡ run_of c.args.site.now.region.now 1 = (counts _ _ _ _ c.requires.writable.ready).1 in
     let here : c.loop-j.j < run_of c.args.site.now.region.now 1 = omega (arith, count, c.loop-j-test.true) in (
       writes_more c.args.site.now.record.now c.loop-j.invariant.0 here c.write_run.ensures
-          (run_kept c.args.site.now.record.now c.args.file.now c.args.site.now.region.now c.args.site.now.lattice c.args.input.now c.requires.writable c.args.i c.requires.i_bound.0 c.loop-j.j here c.loop-j.file c.loop-j.invariant.0.kept (run_of c.args.site.now.region.now 2) (le_refl (run_of c.args.site.now.region.now 2))),
+          (run_kept _ _ _ _ _ c.requires.writable c.args.i c.requires.i_bound.0 c.loop-j.j here c.loop-j.file c.loop-j.invariant.0.kept (run_of
+          c.args.site.now.region.now 2) (le_refl (run_of c.args.site.now.region.now 2))),
       omega (arith, c.loop-j.invariant.1, c.requires.i_bound.1),
     )
 
 pub returns : goal.returns
 returns c =
-    let count : c.args.site.now.lattice.count1 ≡ run_of c.args.site.now.region.now 1 = (counts c.args.site.now.record.now c.args.file.now c.args.site.now.region.now c.args.site.now.lattice c.requires.writable.ready).1 in
+    let count : c.args.site.now.lattice.count1 ≡ run_of c.args.site.now.region.now 1 = (counts _ _ _ _ c.requires.writable.ready).1 in
     writes-all c.args.site.now.record.now c.loop-j.invariant.0 (omega (arith, count, c.loop-j-test.false))

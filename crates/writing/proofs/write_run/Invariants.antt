@@ -8,7 +8,8 @@ use Rattle.writing.proofs.write_run.Given as goal
 
 abbrev pub invariant-loop-k : goal.invariant-loop-k
 invariant-loop-k l =
-    (l.file ≡ up l.k (sample_to l.site.record.now l.site.region.now l.input l.i l.j) l.initial.file) × (length l.file ≡ length l.initial.file) × (l.a ≡ tri (run_of l.site.region.now 1) (run_of l.site.region.now 2) l.i l.j l.k * l.w) × (l.k ≤ l.n)
+    (l.file ≡ up l.k (sample_to l.site.record.now l.site.region.now l.input l.i l.j) l.initial.file) × (length l.file ≡ length l.initial.file) × (l.a
+    ≡ tri (run_of l.site.region.now 1) (run_of l.site.region.now 2) l.i l.j l.k * l.w) × (l.k ≤ l.n)
 
 abbrev pub decreases-loop-k : goal.decreases-loop-k
 decreases-loop-k l = l.n - l.k

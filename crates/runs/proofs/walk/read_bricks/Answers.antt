@@ -14,23 +14,27 @@ left-ni-requires g c = asks0 c.args.v.now c.loop-i-test.true
 
 pub read_columns-requires : goal.read_columns-requires
 read_columns-requires g c =
-    let turn : Along c.args.v.now.site.record.now c.args.v.now.site.region.now 0 c.loop-i.i c.left-ni.result = along0 c.args.v.now.ready _ _ _ c.loop-i-test.true refl c.left-ni.ensures in
+    let turn : Along c.args.v.now.site.record.now c.args.v.now.site.region.now 0 c.loop-i.i c.left-ni.result = along0 c.args.v.now.ready _ _ _
+    c.loop-i-test.true refl c.left-ni.ensures in
     record { fits = c.requires.fits; room = c.loop-i.invariant.0.size ∙ c.requires.room; through = turn }
 
 pub overflow_add-i : goal.overflow_add-i
 overflow_add-i g c =
-    let turn : Along c.args.v.now.site.record.now c.args.v.now.site.region.now 0 c.loop-i.i c.left-ni.result = along0 c.args.v.now.ready _ _ _ c.loop-i-test.true refl c.left-ni.ensures in
+    let turn : Along c.args.v.now.site.record.now c.args.v.now.site.region.now 0 c.loop-i.i c.left-ni.result = along0 c.args.v.now.ready _ _ _
+    c.loop-i-test.true refl c.left-ni.ensures in
     omega (arith, turn, c.args.v.now.ready.few)
 
 pub loop-i-smaller : goal.loop-i-smaller
 loop-i-smaller g c =
-    let turn : Along c.args.v.now.site.record.now c.args.v.now.site.region.now 0 c.loop-i.i c.left-ni.result = along0 c.args.v.now.ready _ _ _ c.loop-i-test.true refl c.left-ni.ensures in
+    let turn : Along c.args.v.now.site.record.now c.args.v.now.site.region.now 0 c.loop-i.i c.left-ni.result = along0 c.args.v.now.ready _ _ _
+    c.loop-i-test.true refl c.left-ni.ensures in
     omega (arith, turn)
 
 pub loop-i-preserved : goal.loop-i-preserved
 loop-i-preserved g c =
     let count : c.args.v.now.site.lattice.count0 ≡ run_of c.args.v.now.site.region.now 0 = (counts _ _ _ _ c.args.v.now.ready).0 in
-    let turn : Along c.args.v.now.site.record.now c.args.v.now.site.region.now 0 c.loop-i.i c.left-ni.result = along0 c.args.v.now.ready _ _ _ c.loop-i-test.true refl c.left-ni.ensures in
+    let turn : Along c.args.v.now.site.record.now c.args.v.now.site.region.now 0 c.loop-i.i c.left-ni.result = along0 c.args.v.now.ready _ _ _
+    c.loop-i-test.true refl c.left-ni.ensures in
     (boxed_more0 c.loop-i.invariant.0 (rw zero-add c.read_columns.ensures), omega (arith, turn, count))
 
 pub returns : goal.returns
