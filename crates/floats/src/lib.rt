@@ -71,7 +71,7 @@ fn converted(s: i32, lo: i32, hi: i32, min: f64, max: f64) -> f64
 }
 
 // An item of an integer type: the unsigned number of its bytes, and half of the type's numbers. They go from -half to half - 1: half is 128
-// for int8 and 32768 for int16.
+// for int8 and 32768 for int16. It is a number and no type of its own, since the float rules are stated by it.
 #[derive(Clone, Copy)]
 pub struct Item {
     pub raw: u32,

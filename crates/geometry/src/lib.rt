@@ -19,14 +19,14 @@ pub const GREATEST_EXPONENT: u32 = 6;
 // The largest size, the most bricks of all levels, and the shortest and the longest text.
 pub const SIZE_LIMIT: u32 = 1048576;
 
-// The levels that are searched for the last one: at level 20 one sample is left of the largest size.
-const LEVEL_CAP: u64 = 20;
-
 pub const BRICK_LIMIT: u64 = 16384;
 
 pub const SHORTEST_TEXT: u32 = 5;
 
 pub const LONGEST_TEXT: u32 = 65536;
+
+// The levels that are searched for the last one: at level 20 one sample is left of the largest size.
+const LEVEL_CAP: u64 = 20;
 
 // Levels, and the bricks and alpha tiles of all levels.
 #[derive(Clone, Copy)]

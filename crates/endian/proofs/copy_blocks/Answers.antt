@@ -13,10 +13,12 @@ loop-t-preserved c =
 pub returns : goal.returns
 returns c =
     let a = c.args in
+    let src = a.src.now in
+    let last = length a.out.now - a.size in
     rw c.copy_block-2.ensures
     (elim c.loop-t-test.branch [
-      | else-loop-t-test w ↦ rw w.out-is (block_last a.src.now (omega arith) c.loop-t.invariant (length a.out.now - a.size) a.size (omega arith) (omega arith))
+      | else-loop-t-test w ↦ rw w.out-is (block_last src (omega arith) c.loop-t.invariant last a.size (omega arith) (omega arith))
       | then-loop-t-test+else-size-last w ↦
           rw (w.out-is, w.copy_block.ensures)
-          (block_last a.src.now (omega arith) (block_more a.src.now (omega arith) c.loop-t.invariant a.size (omega arith)) (length a.out.now - a.size) a.size (omega arith) (omega arith))
+          (block_last src (omega arith) (block_more src (omega arith) c.loop-t.invariant a.size (omega arith)) last a.size (omega arith) (omega arith))
     ])
