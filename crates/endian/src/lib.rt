@@ -46,7 +46,8 @@ pub fn u64_at(s: &[u8], at: usize) -> u64
     ])
 }
 
-// Byte by byte: runs below 4 bytes, and the load and the store of a piece.
+// Byte by byte: runs below 4 bytes, and the load and the store of a piece. That both slices have one length stands at each function here, as it
+// does at the library's copy_from_slice: they are two slices of the caller's.
 fn copy_bytes(out: &mut [u8], src: &[u8])
     requires { length src.now ≡ length out.old }
     ensures { out.new ≡ src.now }

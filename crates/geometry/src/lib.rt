@@ -78,7 +78,8 @@ fn ceil_shift(n: u64, k: u64) -> u64
     ((n - 1) >> k) + 1
 }
 
-// A level's extent in samples, in a direction of this size: size / 2^l, rounded up.
+// A level's extent in samples, in a direction of this size: size / 2^l, rounded up. The level's bound stands at each function that shifts by it:
+// it is one number, and levels are counted where they are not yet known.
 pub fn extent_at(size: u32, l: u64) -> u64
     requires { (1 ≤ size) × (l ≤ level_cap) }
     ensures { result ≡ extent size l }

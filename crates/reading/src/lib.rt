@@ -36,7 +36,7 @@ fn put_value(out: &mut [u8], value: u32, w: usize)
     }
 }
 
-// n items of one value, each of W bytes. The end of each is counted by hand: after `chunks_exact_mut` a proof knows no byte of a chunk.
+// n items of one value, each of W bytes, into a part that has room for just these, which each function here asks of the part that it is lent. The end of each is counted by hand: after `chunks_exact_mut` a proof knows no byte of a chunk.
 fn fill<const W: usize>(out: &mut [u8], value: u32, n: usize)
     requires { length out.old ≡ n * W }
     ensures { out.new ≡ cat n (λ t. lows W value) }

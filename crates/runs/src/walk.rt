@@ -32,7 +32,7 @@ pub trait Reader {
 }
 
 // The boxes of the bricks one above the other. What the reader was made for and the room of the buffer stand at each loop: the buffer is written
-// and the view is not, so they are lent apart, and only a call brings them together.
+// and the view is not, so they are lent apart, and only a call brings them together. The part that a loop goes through is its own.
 fn read_boxes<R: Reader>(out: &mut [R::Element], v: &View, reader: &R, i: Span, j: Span)
     requires fits { R.fits reader.now v.now.site.record.now }
     requires room { Roomy R.width v.now out.old }
