@@ -19,7 +19,8 @@ use regions::write_verdict;
 use runs::site::Site;
 use runs::{index, lattice_of};
 
-// Where the brick that holds a sample of the region is stored.
+// Where the brick that holds a sample of the region is stored. Check 19 has passed where this is called, so the 0 stands for no brick that is
+// written to.
 fn offset_on(file: &[u8], site: &Site, i: usize, j: usize, k: usize) -> u64
     requires inside { Inside site.now.record.now (place site.now.region.now i j k) }
     requires same_length { site.now.record.now.length ≡ length file.now }

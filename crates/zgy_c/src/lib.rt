@@ -126,12 +126,42 @@ impl From<Result<f64, Refusal>> for ZgyPosition {
     }
 }
 
+impl From<Brick> for ZgyKind {
+    ghost from_gives = { λ brick given. given ≡ brick_c brick };
+
+    fn from(brick: Brick) -> ZgyKind {
+        match brick {
+            Brick::Missing => ZgyKind {
+                number: 0,
+                entry: 0,
+                kind: 0,
+                value: 0.0,
+                offset: 0,
+            },
+            Brick::Constant(value) => ZgyKind {
+                number: 0,
+                entry: 0,
+                kind: 1,
+                value,
+                offset: 0,
+            },
+            Brick::Stored(offset) => ZgyKind {
+                number: 0,
+                entry: 0,
+                kind: 2,
+                value: 0.0,
+                offset,
+            },
+        }
+    }
+}
+
 impl From<Result<Brick, Refusal>> for ZgyKind {
     ghost from_gives = { λ answer given. given ≡ kind_c answer };
 
     fn from(answer: Result<Brick, Refusal>) -> ZgyKind {
         match answer {
-            Ok(brick) => known(brick),
+            Ok(brick) => brick.into(),
             Err(x) => ZgyKind {
                 number: x.number(),
                 entry: x.entry(),
@@ -170,34 +200,6 @@ fn fill_of(fill: u32) -> Fill
         Fill::Constant
     } else {
         Fill::Stored
-    }
-}
-
-fn known(brick: Brick) -> ZgyKind
-    ensures { result ≡ brick_c brick }
-{
-    match brick {
-        Brick::Missing => ZgyKind {
-            number: 0,
-            entry: 0,
-            kind: 0,
-            value: 0.0,
-            offset: 0,
-        },
-        Brick::Constant(value) => ZgyKind {
-            number: 0,
-            entry: 0,
-            kind: 1,
-            value,
-            offset: 0,
-        },
-        Brick::Stored(offset) => ZgyKind {
-            number: 0,
-            entry: 0,
-            kind: 2,
-            value: 0.0,
-            offset,
-        },
     }
 }
 
