@@ -2,7 +2,7 @@
 use mathlib.Core.Bool.{Bool, true, false, cond}
 use mathlib.Core.List.{List}
 use mathlib.Core.Path.{◌≡◌, sym, ap, ◌∙◌}
-use Prim.Native.Nat.{ℕ, ◌<◌}
+use Prim.Native.Nat.{ℕ, ◌<◌, ◌≤◌}
 use native.Mathlib.Nat.{le_refl}
 use native.Mathlib.Omega.{arith}
 use borrow.Author.Tests.{lt-ltb, le-ltb}
@@ -10,6 +10,7 @@ use Rattle.record.specs.Answers.{refused, Verdict, Taken}
 use Rattle.record.specs.declared.Refusal.{Refusal}
 use Rattle.std.specs.Prelude.{Option, None, Some}
 use Rattle.std.specs.List.{find}
+use Rattle.record.specs.Record.{header_of}
 use Rattle.record.specs.declared.Record.{Record}
 use Rattle.checks.specs.Fits.{breaks14_with}
 use Rattle.checks.proofs.Records.{with_fit, fits-is}
@@ -17,9 +18,9 @@ use Rattle.runs.specs.Runs.{Allowed}
 use Rattle.cube.specs.declared.Region.{Region}
 use Rattle.cube.specs.Regions.{in_extent, touches, unless_touched, not_stored}
 use Rattle.cube.proofs.Valid.{entries}
-use Rattle.table.specs.Entries.{table_in, breaks12, Readable}
+use Rattle.table.specs.Entries.{table_in, breaks12, Derived}
 use Rattle.table.specs.declared.Table.{Table}
-use Rattle.table.proofs.Tables.{fits_derived, derived_readable}
+use Rattle.table.proofs.Tables.{fits_derived}
 use Rattle.regions.specs.declared.Block.{Block}
 use Rattle.regions.specs.Search.{fails, entries_in, Below, block_of, Passed, rest}
 use Rattle.regions.proofs.Finds.{find_agree}
@@ -33,8 +34,8 @@ use Rattle.record.specs.declared.Refusal.TheVariants as refusal
 abbrev bad : Record → List ℕ → Bool → ℕ → Bool
 bad r f stored e = cond stored (not_stored r f e) (breaks12 r f e)
 
-pub search_readable : (r : Record) (g : Region) → Passed r g → (n : ℕ) → r.length ≡ n → Readable (table_in r) n
-search_readable r g p n e = derived_readable r (fits_derived r p.fitting) n (omega (arith, (fit_of r g p).long, (fit_of r g p).header_is))
+pub made : (r : Record) (g : Region) → Passed r g → (n : ℕ) → r.length ≡ n → Derived r × (header_of r.description r.text ≤ n)
+made r g p n e = (fits_derived r p.fitting, omega (arith, (fit_of r g p).long, (fit_of r g p).header_is))
 
 module _ (r : Record) (g : Region) (p : Passed r g) (t : Table) (b : Block) (et : t ≡ table_in r) (eb : b ≡ block_of r g) where
   pub search_below : Below b t.count

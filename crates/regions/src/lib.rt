@@ -9,7 +9,7 @@ ghost use Rattle.geometry.specs.Geometry.{extent};
 ghost use Rattle.record.specs.declared.Refusal.TheVariants as refusal;
 ghost use Rattle.runs.specs.Runs.{Allowed};
 ghost use Rattle.checks.specs.Checks.{side_ok};
-ghost use Rattle.table.specs.Entries.{breaks12, Readable};
+ghost use Rattle.table.specs.Entries.{breaks12};
 ghost use Rattle.cube.specs.Regions.{size_of, in_extent, touches, unless_touched, is_stored, region_verdict, raw_verdict, float_verdict, write_verdict};
 ghost use Rattle.regions.specs.Search.{fails, row_from, layer_from, entries_in, LayerBelow, Below, along_of, block_of, Passed, rest};
 
@@ -18,7 +18,7 @@ use cube::Region;
 use geometry::{entry_at, extent_at};
 use record::{Record, Refusal, width_of};
 use runs::{index, level_in, over};
-use table::{Kind, Table, kind_at, out_of_range, table_in};
+use table::{Entries, Kind};
 
 // The bricks that a run of samples touches in a direction.
 #[derive(Clone, Copy)]
@@ -121,23 +121,23 @@ fn is_stored(kind: Kind) -> bool
 
 // An entry fails check 19, or check 12. Which of the two is a bool and no closure: of a closure the contracts could say only what its own
 // says, and not which check it is.
-fn entry_fails(file: &[u8], t: Table, entry: u64, stored: bool) -> bool
-    requires { Readable t (length file.now) × (entry < t.count) }
-    ensures { result ≡ fails stored t file.now entry }
+fn entry_fails(entries: &Entries, entry: u64, stored: bool) -> bool
+    requires { entry < entries.now.table.count }
+    ensures { result ≡ fails stored entries.now.table entries.now.file.now entry }
 {
     if stored {
-        return !is_stored(kind_at(file, t, entry as usize));
+        return !is_stored(entries.kind(entry as usize));
     }
-    out_of_range(file, t, entry as usize)
+    entries.is_out_of_range(entry as usize)
 }
 
 // The first entry that fails, of a row along inline from this entry on.
-fn search_row(file: &[u8], t: Table, from: u64, count: u64, stored: bool) -> Option<u32>
-    requires { Readable t (length file.now) × (from + count ≤ t.count) }
-    ensures { result ≡ find (fails stored t file.now) (row_from from count) }
+fn search_row(entries: &Entries, from: u64, count: u64, stored: bool) -> Option<u32>
+    requires { from + count ≤ entries.now.table.count }
+    ensures { result ≡ find (fails stored entries.now.table entries.now.file.now) (row_from from count) }
 {
     for x in 0..count {
-        if entry_fails(file, t, from + x, stored) {
+        if entry_fails(entries, from + x, stored) {
             return Some((from + x) as u32);
         }
     }
@@ -145,12 +145,12 @@ fn search_row(file: &[u8], t: Table, from: u64, count: u64, stored: bool) -> Opt
 }
 
 // The first that fails of the rows of a layer, one after the other crossline.
-fn search_layer(file: &[u8], t: Table, b: Block, from: u64, stored: bool) -> Option<u32>
-    requires { Readable t (length file.now) × (from ≤ t.count) × LayerBelow b from t.count }
-    ensures { result ≡ find (fails stored t file.now) (layer_from b from) }
+fn search_layer(entries: &Entries, b: Block, from: u64, stored: bool) -> Option<u32>
+    requires { (from ≤ entries.now.table.count) × LayerBelow b from entries.now.table.count }
+    ensures { result ≡ find (fails stored entries.now.table entries.now.file.now) (layer_from b from) }
 {
     for y in 0..b.crossline {
-        let found = search_row(file, t, from + y * b.row, b.inline, stored);
+        let found = search_row(entries, from + y * b.row, b.inline, stored);
         if found.is_some() {
             return found;
         }
@@ -159,12 +159,12 @@ fn search_layer(file: &[u8], t: Table, b: Block, from: u64, stored: bool) -> Opt
 }
 
 // The first that fails of the layers of a block, one after the other vertical.
-fn search(file: &[u8], t: Table, b: Block, stored: bool) -> Option<u32>
-    requires { Readable t (length file.now) × Below b t.count }
-    ensures { result ≡ find (fails stored t file.now) (entries_in b) }
+fn search(entries: &Entries, b: Block, stored: bool) -> Option<u32>
+    requires { Below b entries.now.table.count }
+    ensures { result ≡ find (fails stored entries.now.table entries.now.file.now) (entries_in b) }
 {
     for z in 0..b.vertical {
-        let found = search_layer(file, t, b, b.first + z * b.layer, stored);
+        let found = search_layer(entries, b, b.first + z * b.layer, stored);
         if found.is_some() {
             return found;
         }
@@ -177,15 +177,15 @@ fn check_entries(file: &[u8], r: Record, g: Region, write: bool) -> Result<(), R
     requires { Passed r g × (r.length ≡ length file.now) }
     ensures { result ≡ unless_touched r refusal.Range (touches r g) (breaks12 r file.now) (rest write r file.now g) }
 {
-    let t = table_in(r);
+    let entries = Entries::of(file, r);
     let b = block_of(r, g);
-    if let Some(entry) = search(file, t, b, false) {
+    if let Some(entry) = search(&entries, b, false) {
         return Err(Refusal::Range(entry));
     }
     if !write {
         return Ok(());
     }
-    match search(file, t, b, true) {
+    match search(&entries, b, true) {
         Some(entry) => Err(Refusal::NotStored(entry)),
         None => Ok(()),
     }

@@ -11,7 +11,7 @@ ghost use Rattle.report.specs.Listing.{cube_lines, listing_of};
 
 use opening::open;
 use record::{Coding, Record, Refusal, coding_of};
-use table::{Kind, kind_at, table_in};
+use table::{Entries, Kind};
 use text::Writer;
 
 // The most bytes that a listed file has.
@@ -104,10 +104,10 @@ fn cube_lines(out: &mut Writer, file: &[u8], r: Record)
     ensures { Writes out.old (cube_lines file.now r) out.new }
 {
     let d = r.description;
-    let t = table_in(r);
+    let entries = Entries::of(file, r);
     header_lines(out, r);
-    for entry in 0..t.count {
-        let kind = kind_at(file, t, entry);
+    for entry in 0..entries.table.count {
+        let kind = entries.kind(entry);
         entry_line(out, entry, d.datatype, kind);
     }
 }

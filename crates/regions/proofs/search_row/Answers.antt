@@ -9,7 +9,7 @@ loop-x-init c = (omega arith, find_start _ _)
 
 pub returns-then-entry_fails : goal.returns-then-entry_fails
 returns-then-entry_fails c =
-    row_hit (fails c.args.stored c.args.t c.args.file.now) c.args.from c.args.count c.loop-x.x (omega arith) c.loop-x.invariant.1 (sym c.entry_fails.ensures ∙ c.if-entry_fails.true)
+    row_hit (fails c.args.stored c.args.entries.now.table c.args.entries.now.file.now) c.args.from c.args.count c.loop-x.x (omega arith) c.loop-x.invariant.1 (sym c.entry_fails.ensures ∙ c.if-entry_fails.true)
 
 pub loop-x-preserved : goal.loop-x-preserved
 loop-x-preserved c =

@@ -4,4 +4,4 @@ use Rattle.report.specs.Listing.{entry_lines}
 use Rattle.report.proofs.cube_lines.Given as goal
 
 abbrev pub invariant-loop-entry : goal.invariant-loop-entry
-invariant-loop-entry l = Writes l.initial.out (entry_lines l.d.datatype (kind_at l.t l.file) l.entry) l.out
+invariant-loop-entry l = Writes l.initial.out (entry_lines l.d.datatype (kind_at l.entries.table l.entries.file.now) l.entry) l.out
