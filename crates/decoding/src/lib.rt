@@ -25,7 +25,8 @@ fn item(bytes: &[u8], at: usize, width: usize) -> u32
     }
 }
 
-// Items of an integer type, scaled to the coding range: HALF is 128 for int8 and 32768 for int16.
+// Items of an integer type, scaled to the coding range: HALF is 128 for int8 and 32768 for int16. That there are as many bytes as items stands at
+// each function here: they are two slices of the caller's.
 fn decode_scaled<const WIDTH: usize, const HALF: u32>(
     out: &mut [f64],
     bytes: &[u8],
@@ -71,7 +72,7 @@ pub fn decode(out: &mut [f64], bytes: &[u8], datatype: u8, min: f64, max: f64)
     }
 }
 
-// One sample, from the unsigned number of its bytes.
+// One sample, from the unsigned number of its bytes. The ends of the coding range are two arguments here and above, as the float rules name them.
 pub fn decode_one(datatype: u8, raw: u32, min: f64, max: f64) -> f64
     requires { raw < 256 ^ width_of datatype }
     ensures { result ≡ decode_of datatype min max raw }

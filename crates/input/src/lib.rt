@@ -23,6 +23,9 @@ pub fn read_full<R: Read>(from: &mut R, out: &mut [u8]) -> (usize, io::Result<()
 {
     let mut done = 0;
     for _ in 0..out.len() {
+        if done == out.len() {
+            break;
+        }
         match from.read(&mut out[done..]) {
             Ok(0) => return (done, Ok(())),
             Ok(n) => done += n,

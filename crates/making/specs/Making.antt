@@ -1,5 +1,5 @@
 -- Making a cube (FORMAT 10.12): version 3, from a description and a lent text.
-use Rattle.std.specs.Prelude.{cond, List, [], ◌∷◌, ◌++◌, ℕ, ◌+◌, ◌-◌, ◌*◌, ◌^◌, ltb, get_or, length, drop, replicate, Ok, Err}
+use Rattle.std.specs.Prelude.{cond, List, [], ◌∷◌, ◌++◌, ℕ, ◌+◌, ◌-◌, ◌*◌, ◌^◌, eqb, ltb, get_or, length, drop, replicate, Ok, Err}
 use Rattle.std.specs.Float.{binary32}
 use Rattle.std.specs.Float.Ieee.{of_bits}
 use Rattle.endian.specs.Loops.{cat}
@@ -13,6 +13,10 @@ use Rattle.checks.specs.Checks.{breaks11, described}
 use Rattle.making.specs.declared.Fill.{Fill}
 use Rattle.making.specs.declared.Fill.TheVariants.{Constant, Stored}
 use Rattle.record.specs.declared.Refusal.TheVariants as refusal
+
+-- what a number says of the bricks of a made cube: 0 that they are constant, any other that they are stored
+abbrev pub fill_by : ℕ → Fill
+fill_by n = cond (eqb n 0) Constant Stored
 
 -- n zero bytes
 abbrev pub zero_bytes : ℕ → List ℕ

@@ -11,7 +11,7 @@ ghost use Rattle.checks.specs.Checks.{described};
 ghost use Rattle.geometry.specs.Limits.{longest_text};
 ghost use Rattle.text.specs.Text.{Pours};
 ghost use Rattle.text.specs.Writing.{Writes};
-ghost use Rattle.making.specs.Making.{zero_bytes, three, stored_id, file_header, brick_fields, id_fields, grid_fields, current_fields, survey_fields, unit_fields, info_header, made_file, make_verdict, make_answer, make_buffer};
+ghost use Rattle.making.specs.Making.{fill_by, zero_bytes, three, stored_id, file_header, brick_fields, id_fields, grid_fields, current_fields, survey_fields, unit_fields, info_header, made_file, make_verdict, make_answer, make_buffer};
 ghost use Rattle.making.specs.MadeOpens.{MadeOpens};
 ghost use Rattle.making.specs.Plan.{Measured, survey_sizes, stepped, plan_of, headed, rest_verdict};
 
@@ -26,6 +26,19 @@ use text::Writer;
 pub enum Fill {
     Constant,
     Stored,
+}
+
+// As a number says it where there is no such type: 0 is constant, any other number stored.
+impl From<u32> for Fill {
+    ghost from_gives = { λ number given. given ≡ fill_by number };
+
+    fn from(number: u32) -> Fill {
+        if number == 0 {
+            Fill::Constant
+        } else {
+            Fill::Stored
+        }
+    }
 }
 
 // The numbers that a made cube follows from.
@@ -197,7 +210,8 @@ fn push_entries(out: &mut Writer, count: usize, first: u64, step: u64)
     }
 }
 
-// The numbers of a cube with this description and a text of `text` bytes.
+// The numbers of a cube with this description and a text of `text` bytes. Description, text and fill are the three arguments of `make`, and go
+// through its checks as they were lent.
 fn plan_of(d: Description, text: u32, fill: Fill) -> Plan
     requires { described d text ≡ Taken }
     ensures { result ≡ plan_of d text fill }

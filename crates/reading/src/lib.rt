@@ -24,7 +24,7 @@ use runs::walk::{Reader, read_bricks};
 use runs::{index, lattice_of};
 use table::Kind;
 
-// The low w bytes of a value, the lowest first.
+// The low w bytes of a value, the lowest first, by division: the promise is for any number of bytes, and to_le_bytes has four.
 fn put_value(out: &mut [u8], value: u32, w: usize)
     requires { length out.old ≡ w }
     ensures { out.new ≡ lows w value }

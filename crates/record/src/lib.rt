@@ -152,6 +152,7 @@ pub struct Record {
     pub length: u64,
 }
 
+// What a type number says. A function and no TryFrom: the definitions and the documents call it by this name, and `?` reads the same.
 #[tactic(auto, unfolding(crate::specs::Types::coding_of))]
 pub fn coding_of(datatype: u8) -> Result<Coding, Refusal>
     ensures { result ≡ coding_of datatype }
@@ -182,6 +183,7 @@ pub fn width_of(datatype: u8) -> u32
     }
 }
 
+// Three numbers of 32 bits, and two. Each is its list, as the header's fields are read nowhere in a loop.
 fn three_at(file: &[u8], at: usize) -> [u32; 3]
     requires { at + 12 ≤ length file.now }
     ensures { result ≡ three_at file.now at }
@@ -311,7 +313,7 @@ pub fn record_of(version: u32, d: Description, text: u32, length: u64) -> Record
     }
 }
 
-// The record beside a refusal: all zeros.
+// The record that C gets beside a refusal: all zeros, each written out as the definition has it.
 pub fn no_record() -> Record
     ensures { result ≡ no_record }
 {

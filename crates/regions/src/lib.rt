@@ -112,15 +112,11 @@ fn block_of(r: Record, g: Region) -> Block
 fn is_stored(kind: Kind) -> bool
     ensures { result ≡ is_stored kind }
 {
-    match kind {
-        Kind::Missing => false,
-        Kind::Constant(_) => false,
-        Kind::Stored(_) => true,
-    }
+    kind.offset().is_some()
 }
 
-// An entry fails check 19, or check 12. Which of the two is a bool and no closure: of a closure the contracts could say only what its own
-// says, and not which check it is.
+// An entry fails check 19, or check 12. Which of the two is a bool and no closure that is handed down: the contracts on the way could say of a
+// closure only what its own says, and not which check it is.
 fn entry_fails(entries: &Entries, entry: u64, stored: bool) -> bool
     requires { entry < entries.now.table.count }
     ensures { result ≡ fails stored entries.now.table entries.now.file.now entry }
@@ -172,7 +168,7 @@ fn search(entries: &Entries, b: Block, stored: bool) -> Option<u32>
     None
 }
 
-// Checks 12 and, for a write, 19 over the touched entries.
+// Checks 12 and, for a write, 19 over the touched entries. Whether it is a write is a bool, as in the definition of what comes after check 12.
 fn check_entries(file: &[u8], r: Record, g: Region, write: bool) -> Result<(), Refusal>
     requires { Passed r g × (r.length ≡ length file.now) }
     ensures { result ≡ unless_touched r refusal.Range (touches r g) (breaks12 r file.now) (rest write r file.now g) }

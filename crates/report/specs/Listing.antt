@@ -9,7 +9,7 @@ use Rattle.record.specs.declared.Coding.TheVariants.{Scaled, Float32}
 use Rattle.record.specs.declared.Record.{Record}
 use Rattle.record.specs.declared.Refusal.{Refusal}
 use Rattle.record.specs.Answers.{Verdict, number, entry, Taken, refused}
-use Rattle.record.specs.declared.Refusal.TheVariants as refusal
+use Rattle.record.specs.declared.Refusal.TheVariants as case
 use Rattle.table.specs.declared.Kind.{Kind}
 use Rattle.table.specs.declared.Kind.TheVariants.{Missing, Constant, Stored}
 use Rattle.table.specs.Entries.{kind_in}
@@ -98,6 +98,6 @@ float32_constant : entry_line 6 0 (Constant 1065353216) ≡ bytes_of "entry 0 co
 unfolding entry_line kind_text constant_text coding_of decimal digits
 float32_constant = refl
 
-refusal_line : refused_line (refusal.Range 2) ≡ bytes_of "refused 12 2\n"
+refusal : refused_line (case.Range 2) ≡ bytes_of "refused 12 2\n"
 unfolding decimal digits
-refusal_line = refl
+refusal = refl

@@ -15,7 +15,8 @@ use table::{Table, table_in};
 pub mod site;
 pub mod walk;
 
-// A region among the bricks of its level, worked out once for a call.
+// A region among the bricks of its level, worked out once for a call. Each number of a direction has a name of its own and stands in no array: no
+// loop goes over the directions.
 #[derive(Clone, Copy)]
 pub struct Lattice {
     // The brick table, and what numbers the bricks of the level.

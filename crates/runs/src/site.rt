@@ -64,7 +64,8 @@ impl<'a> Site<'a> {
         entry_at(q.level, x as u64, y as u64, z as u64) as usize
     }
 
-    // What the brick that holds a sample of the region is. Which sample is a matter of the call, so that it is one stands here and at the two below.
+    // What the brick that holds a sample of the region is. Which sample is a matter of the call: its three
+    // numbers go on as the loops have them, and that it is one stands here and at the two below.
     pub fn kind(&self, file: &[u8], i: usize, j: usize, k: usize) -> Kind
         requires inside { Inside self.now.record.now (place self.now.region.now i j k) }
         requires same_length { self.now.record.now.length ≡ length file.now }

@@ -1,6 +1,6 @@
-// A region read brick by brick: the bricks that it touches, each once for some of its inlines, and of each brick one box. The loops step by what
-// lies in a brick, which no range does: an iterator of these parts would have to be written and proved, and would say no more.
-// The loops go on by what `left` or `at_once` answers, a step that differs from turn to turn, which no range or `step_by` has.
+// A region read brick by brick: the bricks that it touches, each once for some of its inlines, and of each brick one box. The loops go on by
+// what `left` or `at_once` answers, a step that differs from turn to turn, which no range or `step_by` has: an iterator of such parts would have to
+// be written and proved, and would say no more.
 ghost use Rattle.std.specs.Prelude.{List, ◌≡◌, ℕ};
 ghost use Rattle.endian.specs.Loops.{cat};
 ghost use Rattle.record.specs.declared.Record.{Record};
@@ -11,7 +11,8 @@ ghost use Rattle.runs.specs.Views.{whole, Through, InBrick, Roomy, Filled};
 use crate::site::{BrickBox, Span, View};
 use crate::{at_once, left};
 
-// A way to read samples: what they become, and how a box of one brick is read.
+// A way to read samples: what they become, and how a box of one brick is read. A reader reads a whole box: raw reads join columns into one run, and
+// float reads gather strips, so that below a box their loops have little in common.
 pub trait Reader {
     type Element;
 

@@ -73,7 +73,7 @@ fn read_items(out: &mut [f64], v: &View, range: Range, corner: Corner)
     }
 }
 
-// The rows of a box on one inline.
+// The rows of a box on one inline. The buffer's room stands at each function, as in the walk: it is lent apart from the view.
 fn read_rows(out: &mut [f64], v: &View, range: Range, corner: Corner, i: usize, j: Span, k: Span)
     requires range { range ≡ range_of v.now.site.record.now }
     requires room { Roomy one v.now out.old }
@@ -122,7 +122,8 @@ fn gather_items(out: &mut [u8], file: &[u8], from: usize, step: usize, n: usize,
     }
 }
 
-// As many samples as strip has room for, from the corner's item of its brick on, one of each column. They are gathered first,
+// As many samples as strip has room for, from the corner's item of its brick on, one of each column. Of a brick that is not stored it does what
+// read_items does; a stored one needs the step from column to column, which a row has not. They are gathered first,
 // because the loop that decodes is fast only on items that lie one after the other.
 fn read_strip(strip: &mut [f64], v: &View, range: Range, corner: Corner)
     requires range { range ≡ range_of v.now.site.record.now }

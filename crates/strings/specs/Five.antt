@@ -34,9 +34,9 @@ sample = 97 ∷ 98 ∷ 0 ∷ 0 ∷ 99 ∷ 0 ∷ 0 ∷ 0 ∷ []
 pub record FiveStrings : Type 0 where
   -- a text that passes check 11 is five strings
   pub of_text : (t : List ℕ) → breaks11 t ≡ false → Five t
-  -- the text that a taken walker holds is the text section, five strings
+  -- the text that a walker holds is the text section, five strings
   pub of_cube : (r : Record) (f : List ℕ) → strings_verdict r f ≡ Taken → (text_in r f ≡ text_of f r.text) × Five (text_in r f)
-  -- a refused walker holds no text, and every turn says the refusal
+  -- where the walk is refused there is no text, and every turn is the refusal
   pub of_refused : (r : Record) (f : List ℕ) (n : ℕ) (x : Refusal) → strings_verdict r f ≡ refused x → (text_in r f ≡ []) × (turn_in r f n ≡ Err x)
   -- a turn's verdict is the walk's, and turn n hands out the n-th string
   pub of_turn : (r : Record) (f : List ℕ) (n : ℕ)

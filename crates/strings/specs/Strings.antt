@@ -19,7 +19,7 @@ strings_verdict r f =
     (cond (breaks11 (text_of f r.text)) (refused refusal.Text)
     Taken)
 
--- the text that a walker holds: the text section, or none where it is refused
+-- the text that a walker holds: the text section, or none where the walk is refused
 unfoldable pub text_in : Record → List ℕ → List ℕ
 text_in r f = cond (is_taken (strings_verdict r f)) (text_of f r.text) []
 

@@ -111,7 +111,8 @@ pub fn strings_of<'a>(file: &'a [u8], r: Record) -> Result<Strings<'a>, Refusal>
     Ok(Strings { text, at: 0 })
 }
 
-// What the walker stands at. It goes on saying none after the last string.
+// What the walker stands at. It goes on saying none after the last string. This and the two below are calls that hosts are told of by name, beside
+// `strings_of`, and no methods.
 pub fn next<'a>(w: Strings<'a>) -> Option<Item>
     ensures { result ≡ turn_of w.entry.text.now w.entry.at }
 {
@@ -132,7 +133,7 @@ pub fn moved<'a>(w: Strings<'a>, at: usize) -> Strings<'a>
     Strings { text: w.text, at }
 }
 
-// A text that passes check 11 is five strings, each followed by a zero; five turns hand them out, and then the walker is done.
+// A text that passes check 11 is five strings, each followed by a zero; five turns hand them out, and then it hands out none.
 pub fn five_strings()
     ensures { FiveStrings }
 {}

@@ -66,7 +66,8 @@ fn source_run(plain: bool, n1: usize, r: usize) -> usize
     }
 }
 
-// Each run of `run` bytes of the buffer, in turn, from its place in the other order.
+// Each run of `run` bytes of the buffer, in turn, from its place in the other order. The end of each is counted by hand: after
+// `chunks_exact_mut` a proof knows no byte of a chunk.
 fn move_runs(out: &mut [u8], brick: &[u8], plain: bool, n1: usize, runs: usize, run: usize)
     requires { Movable plain n1 runs run (length brick.now) (length out.old) }
     ensures { out.new ≡ cat runs (λ r. peek brick.now (source_run plain n1 r * run) run) }

@@ -34,7 +34,8 @@ pub struct Table {
 // Every stored offset is below this: the top bit marks a constant.
 const END: u64 = 9223372036854775808;
 
-// The table of the cube with this record.
+// The table of the cube with this record. That a record's numbers follow from its description stands at each function after the checks, here and
+// in the crates above: a record crosses to C and back, and may be lent in any state.
 pub fn table_in(r: Record) -> Table
     requires { Derived r }
     ensures { result ≡ table_in r }
@@ -50,7 +51,8 @@ pub fn table_in(r: Record) -> Table
     }
 }
 
-// The number in the low bytes of a word.
+// The number in the low bytes of a word. That a width is 1, 2 or 4 stands at each function that reads or writes items: in a description and a table
+// it is a plain number, and the loops over items have it as a const parameter.
 fn low_bytes(word: u64, width: u32) -> u32
     requires { Width width }
     ensures { result ≡ word % 256 ^ width }
@@ -238,7 +240,8 @@ impl<'a> Entries<'a> {
     }
 }
 
-// What an entry of the table t in this file names.
+// What an entry of the table t in this file names. Beside the methods for callers that have a table and are lent the file apart, as a region's
+// site is: a write changes the file.
 pub fn kind_at(file: &[u8], t: Table, entry: usize) -> Kind
     requires { Readable t (length file.now) × (entry < t.count) }
     ensures { result ≡ kind_at t file.now entry }

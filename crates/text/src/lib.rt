@@ -27,6 +27,16 @@ impl<'a> Writer<'a> {
         Writer { out, at: 0 }
     }
 
+    // A writer that begins at a place of the slice, or at its end where the place is past it.
+    pub fn starting_at(out: &'a mut [u8], at: usize) -> Writer<'a>
+        ensures same { result.out.ghost_name ≡ out.entry.ghost_name }
+        ensures bytes { result.out.now ≡ out.old }
+        ensures place { result.at ≡ min at (length out.old) }
+    {
+        let place = at.min(out.len());
+        Writer { out, at: place }
+    }
+
     // How many bytes are written.
     pub fn place(&self) -> usize
         ensures { result ≡ self.now.at }

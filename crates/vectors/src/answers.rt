@@ -6,7 +6,7 @@ use crate::call::{Making, Move, Order};
 use crate::lines::{Answer, Bits, Cube, Kind, Step, Word, say_lines};
 use bricks::{brick_kind, brick_view, brick_view_verdict};
 use cube::Region;
-use making::{Fill, make};
+use making::make;
 use opening::open;
 use positions::position;
 use reading::read_raw;
@@ -175,12 +175,7 @@ pub fn say_made(rt: &impl Print, held: &[u8], s: &Setting, making: Making) -> io
     let out = &mut buffer[..s.room.min(HELD)];
     let tail = &held[(making.start as usize).min(held.len())..];
     let text = &tail[..(making.length as usize).min(tail.len())];
-    let fill = if making.fill == 0 {
-        Fill::Constant
-    } else {
-        Fill::Stored
-    };
-    let made = make(out, s.record.description, text, fill);
+    let made = make(out, s.record.description, text, making.fill.into());
     let answer = Answer(made.map(|n| Word("length", n)));
     println!(rt; ": {answer} {:016x}", hash_of(out))?;
     say_lines(rt, shown(out, made, HELD))

@@ -84,7 +84,8 @@ impl fmt::Display for Filler {
     }
 }
 
-// Puts 8 bytes, given as the low and the high half of a number, where there is room for them.
+// Puts 8 bytes, given as the low and the high half of a number, where there is room for them. The place is one that a call names, and none that
+// goes on.
 pub fn put(out: &mut [u8], at: usize, low: u32, high: u32)
     ensures { length out.new ≡ length out.old }
 {

@@ -17,7 +17,7 @@ ghost use Rattle.zgy_c.specs.Boundary.{done_c, fill_c, position_c, brick_c, kind
 use bricks::{Brick, brick_kind, brick_view_verdict};
 use cube::Region;
 use geometry::TEXT_START;
-use making::{Fill, make};
+use making::make;
 use opening::open;
 use positions::position;
 use reading::read_raw;
@@ -37,7 +37,8 @@ pub struct ZgyOpened {
     pub cube: Record,
 }
 
-// What brick kind answers: 0 missing, 1 constant with its value, 2 stored with its offset.
+// What brick kind answers: 0 missing, 1 constant with its value, 2 stored with its offset. Kinds, sources and what was found are numbers here, since
+// C has no enum with fields.
 #[repr(C)]
 #[derive(Clone, Copy)]
 pub struct ZgyKind {
@@ -192,18 +193,7 @@ impl From<Result<Record, Refusal>> for ZgyOpened {
     }
 }
 
-// The kind of bricks is a number here, as are a brick's kind, a view's source and whether a string was found: C has no enum with fields.
-fn fill_of(fill: u32) -> Fill
-    ensures { result ≡ fill_c fill }
-{
-    if fill == 0 {
-        Fill::Constant
-    } else {
-        Fill::Stored
-    }
-}
-
-// Where a brick of this kind, so many bytes long, is shown.
+// Where a brick of this kind, so many bytes long, is shown. No From: it needs the brick's length beside its kind.
 fn part(kind: Kind, length: u64) -> ZgyView
     ensures { result ≡ part_c (shown_of kind length) }
 {
@@ -232,6 +222,7 @@ fn part(kind: Kind, length: u64) -> ZgyView
     }
 }
 
+// A view that is refused. No From, as the taken view has none.
 fn nowhere(x: Refusal) -> ZgyView
     ensures { result ≡ record { number = number x; entry = entry x; source = 0; offset = 0; length = 0 } }
 {
@@ -244,6 +235,7 @@ fn nowhere(x: Refusal) -> ZgyView
     }
 }
 
+// No string, because the walk is refused or because all are handed out, which is number 0.
 fn no_string(number: u32, entry: u32) -> ZgyString
     ensures { result ≡ record { number = number; entry = entry; found = 0; offset = 0; length = 0 } }
 {
@@ -346,7 +338,7 @@ pub extern "C" fn zgy_make(out: &mut [u8], d: Description, text: &[u8], fill: u3
     ensures answer { result ≡ done_c (make_answer d text.now (fill_c fill) (length out.old)) }
     ensures buffer { out.new ≡ make_buffer d text.now (fill_c fill) out.old }
 {
-    make(out, d, text, fill_of(fill)).into()
+    make(out, d, text, fill.into()).into()
 }
 
 // A version 1 brick to plain order.
