@@ -43,7 +43,7 @@ fn decode_scaled<const WIDTH: usize, const HALF: u32>(
 }
 
 // Items of the float type, widened. A loop of its own: one over a closure for the item would promise only what the closure's contract says of
-// each float, and not the float itself.
+// each float, and not the float itself. Its width is an argument, since the edit `width-of-int16` passes another.
 fn decode_widened(out: &mut [f64], bytes: &[u8], width: usize)
     requires { Width width × (length bytes.now ≡ length out.old * width) }
     ensures { out.new ≡ cat (length out.old) (λ n. widened_of (le width bytes.now (n * width)) ∷ []) }

@@ -15,7 +15,8 @@ use std::{fs, io, str};
 pub const LONGEST_NAME: usize = 4096;
 
 // Fills a buffer from a reader. Answers how many bytes it got, and the error of a read that failed, which counts as the input's
-// end. With no error there are fewer than there is room for only where the input ends.
+// end. With no error there are fewer than there is room for only where the input ends. The count stands beside the result, since there is one after
+// an error too.
 pub fn read_full<R: Read>(from: &mut R, out: &mut [u8]) -> (usize, io::Result<()>)
     ensures count { IsPrefixLen result.0 out.new }
     ensures bytes { Consumes (R.remaining from.old) (R.remaining from.new) (take result.0 out.new) }

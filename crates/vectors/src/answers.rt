@@ -20,7 +20,8 @@ use writing::write;
 // Answers up to this many bytes are written out, longer ones only as their hash.
 const SHOWN: usize = 1024;
 
-// What the calls of a list share: the record, how many bytes of the file are lent, the room of the buffers, the seed.
+// What the calls of a list share: the record, how many bytes of the file are lent, the room of the buffers, the seed. Lengths stand here without
+// their buffers, as a call of the list may change them.
 #[derive(Clone, Copy)]
 pub struct Setting {
     pub record: Record,

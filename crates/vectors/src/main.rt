@@ -59,7 +59,8 @@ fn step(rt: &impl Print, held: &mut [u8], s: &mut Setting, call: Call) -> io::Re
     println!(rt)
 }
 
-// A cube of so many bytes, at the start of what is held, and all calls of a list on it where it opens.
+// A cube of so many bytes, at the start of what is held, and all calls of a list on it where it opens. What is held is lent whole, with a length
+// beside it: a call may lend more than the cube, and put bytes past its end.
 fn run_cube(rt: &impl Print, held: &mut [u8], length: usize, calls: &[u8]) -> io::Result<()>
     requires { IsPrefixLen length held.old }
 {

@@ -19,8 +19,8 @@ use regions::write_verdict;
 use runs::site::Site;
 use runs::{index, lattice_of};
 
-// Where the brick that holds a sample of the region is stored. Check 19 has passed where this is called, so the 0 stands for no brick that is
-// written to.
+// Where the brick that holds a sample of the region is stored. The 0 is that of `offset_in`, which sample places are stated with: check 19
+// has passed where this is called, so it stands for no brick that is written to.
 fn offset_on(file: &[u8], site: &Site, i: usize, j: usize, k: usize) -> u64
     requires inside { Inside site.now.record.now (place site.now.region.now i j k) }
     requires same_length { site.now.record.now.length ≡ length file.now }
@@ -84,7 +84,7 @@ fn write_plane(file: &mut [u8], input: &[u8], site: &Site, i: usize, run: usize,
     }
 }
 
-// The inlines of a region, of `plane` bytes each.
+// The inlines of a region, of `plane` bytes each, whose places are added up too.
 fn write_planes(file: &mut [u8], input: &[u8], site: &Site, run: usize, plane: usize)
     requires writable { IsWritable site.now file.old input.now }
     requires run_value { (run ≡ run_of site.now.region.now 2 * item_bytes site.now.record.now) × (plane ≡ run_of site.now.region.now 1 * run) }

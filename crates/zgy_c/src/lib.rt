@@ -222,7 +222,8 @@ fn part(kind: Kind, length: u64) -> ZgyView
     }
 }
 
-// A view that is refused. No From, as the taken view has none.
+// A view that is refused. No From: a view that is taken needs its slices beside it, and of two ways to make one struct the reader would have to
+// look for both.
 fn nowhere(x: Refusal) -> ZgyView
     ensures { result ≡ record { number = number x; entry = entry x; source = 0; offset = 0; length = 0 } }
 {
@@ -235,7 +236,7 @@ fn nowhere(x: Refusal) -> ZgyView
     }
 }
 
-// No string, because the walk is refused or because all are handed out, which is number 0.
+// No string, because the walk is refused or because all are handed out, which is number 0. It takes the numbers, as the second has no refusal.
 fn no_string(number: u32, entry: u32) -> ZgyString
     ensures { result ≡ record { number = number; entry = entry; found = 0; offset = 0; length = 0 } }
 {
@@ -313,7 +314,7 @@ pub extern "C" fn zgy_position(r: Record, dimension: u32, index: u32) -> ZgyPosi
     position(r, dimension, index).into()
 }
 
-// Where the n-th string of a cube stands in the file, from 0 on.
+// Where the n-th string of a cube stands in the file, from 0 on. No From: an item by itself does not say that its place in a file fits.
 #[unsafe(no_mangle)]
 pub extern "C" fn zgy_string(file: &[u8], r: Record, n: u32) -> ZgyString
     ensures answer { result ≡ string_c (turn_in r file.now n) }
