@@ -25,7 +25,8 @@ pub enum Brick {
     Stored(u64),
 }
 
-// Checks 14, 16 and 12.
+// Checks 14, 16 and 12. File, record and entry go from call to check as a call is lent them, in any state: a struct of the three would say nothing of
+// them, and be made anew by each call.
 fn check_entry(file: &[u8], r: Record, entry: u32) -> Result<(), Refusal>
     ensures { result ≡ kind_verdict r file.now entry }
 {

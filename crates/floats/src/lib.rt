@@ -28,7 +28,8 @@ pub fn float_of(bits: u32) -> f32
     f32::from_bits(bits)
 }
 
-// A sample of the float type, widened. The branch stands here again since the NaN of 64 bits has to be a constant too.
+// A sample of the float type, widened. The branch stands here again, and not `float_of`, since the NaN of 64 bits has to be a constant too: its bits
+// are those that hosts are promised, which the differential tests compare.
 pub fn widen_bits(bits: u32) -> f64
     ensures { result ≡ widened_of bits }
 {
@@ -109,7 +110,7 @@ impl Item {
         self.signed() as f64
     }
 
-    // Its signed number, scaled to the coding range.
+    // Its signed number, scaled to the coding range, whose ends are two arguments everywhere, as the float rules name them.
     pub fn scaled(self, min: f64, max: f64) -> f64
         ensures { result ≡ scaled_of self.half min max self.raw }
     {

@@ -61,7 +61,7 @@ pub fn power_in(least: u32, n: u32) -> bool
     (least..=GREATEST_EXPONENT).contains(&e) && n == 1 << e
 }
 
-// n / d, rounded up.
+// n / d, rounded up, for any divisor. Levels are counted by shifts (`ceil_shift`); this is the definition that they are proved equal to, as a function.
 pub fn ceil_div(n: u64, d: u64) -> u64
     requires { (0 < d) × (n + d ≤ 18446744073709551615) }
     ensures { result ≡ ceil_div n d }

@@ -171,7 +171,7 @@ pub fn coding_of(datatype: u8) -> Result<Coding, Refusal>
     }
 }
 
-// The bytes of an item, 0 where there is no such type.
+// The bytes of an item, 0 where there is no such type: the format's sums take the number as it is, and the checks say that there is none.
 #[tactic(auto, unfolding(crate::specs::Types::width_of))]
 pub fn width_of(datatype: u8) -> u32
     ensures { result ≡ width_of datatype }
@@ -252,7 +252,8 @@ fn floats_of(bits: [u32; 3]) -> [f32; 3]
     [float_of(bits[0]), float_of(bits[1]), float_of(bits[2])]
 }
 
-// The bits of an end of the coding range that the grid keeps: none for type 6, which has no coding range.
+// The bits of an end of the coding range that the grid keeps: 0 for type 6, which has no coding range. The grid goes to C as it
+// stands, so no range is zeros there and not an Option.
 pub fn bound_of(datatype: u8, bits: u32) -> u32
     ensures { result ≡ bound_of datatype bits }
 {
@@ -281,6 +282,8 @@ pub fn shape_in(d: Description) -> Shape
     Volume { size, side }.shape()
 }
 
+// Conversions are casts where a clause of what is called, here or in `geometry`, bounds the number: it is then the field itself that is bounded, and
+// not an answer of `from`.
 pub fn brick_bytes_in(d: Description) -> u64
     requires { Sized d }
     ensures { (result ≡ brick_bytes_of d) × (result ≤ bytes_room) }

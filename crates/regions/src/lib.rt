@@ -169,6 +169,7 @@ fn search(entries: &Entries, b: Block, stored: bool) -> Option<u32>
 }
 
 // Checks 12 and, for a write, 19 over the touched entries. Whether it is a write is a bool, as in the definition of what comes after check 12.
+// That the file is as long as the record says is asked wherever both are lent apart, here and in reads and writes.
 fn check_entries(file: &[u8], r: Record, g: Region, write: bool) -> Result<(), Refusal>
     requires { Passed r g × (r.length ≡ length file.now) }
     ensures { result ≡ unless_touched r refusal.Range (touches r g) (breaks12 r file.now) (rest write r file.now g) }

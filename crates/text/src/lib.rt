@@ -27,7 +27,7 @@ impl<'a> Writer<'a> {
         Writer { out, at: 0 }
     }
 
-    // A writer that begins at a place of the slice, or at its end where the place is past it.
+    // A writer that begins at a place of the slice, or at its end where the place is past it, for who writes into a slice in turns.
     pub fn starting_at(out: &'a mut [u8], at: usize) -> Writer<'a>
         ensures same { result.out.ghost_name ≡ out.entry.ghost_name }
         ensures bytes { result.out.now ≡ out.old }
