@@ -1,6 +1,6 @@
 -- Laws of boxes: a buffer that is filled box by box is, in the end, the region's items in their order. Assumes nothing.
 use Prim.Native.Nat.{ℕ, zero, suc, ◌+◌, ◌-◌, ◌*◌, ◌/◌, ◌%◌, ◌≤◌, ◌<◌, min}
-use mathlib.Core.Bool.{Bool, true, false, ◌||◌, cond, and-false, and-or_distrib_left, and-or_distrib_right}
+use mathlib.Core.Bool.{Bool, true, false, ◌||◌, cond, and-or_distrib_left, and-or_distrib_right}
 use mathlib.Core.Path.{◌≡◌, refl, sym, ap, ◌∙◌}
 use mathlib.Core.List.{List, ◌++◌}
 use native.Mathlib.Omega.{arith}
@@ -35,10 +35,7 @@ between-yes a c x h k = simp (le-leb a x h, lt-ltb x (a + c) k)
 between_no : (a c x : ℕ) → (a ≤ x → x < a + c → ⊥) → between a c x ≡ false
 between_no a c x f = is_false (between a c x) (λ e. let h = between-true a c x e in f h.0 h.1)
 
--- a run of none, and a run with more after it
-between_none : (a x : ℕ) → between a 0 x ≡ false
-between_none a x = between_no a 0 x (λ p q. omega arith)
-
+-- a run with more after it
 between_more : (a c d x : ℕ) → between a (c + d) x ≡ between a c x || between (a + c) d x
 between_more a c d x = go (dec_lt x a) (dec_lt x (a + c)) (dec_lt x (a + c + d))
   where
@@ -55,10 +52,6 @@ cond_or true false u v = refl
 cond_or false b u v = refl
 
 module _ {A : Type 0} {w l m n : ℕ} {g : ℕ → ℕ → ℕ → List A} where
-  -- a box whose test fails at every item
-  boxed_same : (i ni j nj k nk : ℕ) (d : List A) → ((x y z : ℕ) → in_box i ni j nj k nk x y z ≡ false) → Boxed w l m n g i ni j nj k nk d d
-  boxed_same i ni j nj k nk d none = record { size = refl; items = λ x y z hx hy hz. rw (none x y z) }
-
   -- a box that has the items of two
   boxed_both : {i ni j nj k nk i1 ni1 j1 nj1 k1 nk1 : ℕ} (i2 ni2 j2 nj2 k2 nk2 : ℕ) {d e f : List A} → Boxed w l m n g i ni j nj k nk d e → Boxed w l m n g i1 ni1 j1 nj1 k1 nk1 e f
       → ((x y z : ℕ) → in_box i2 ni2 j2 nj2 k2 nk2 x y z ≡ in_box i ni j nj k nk x y z || in_box i1 ni1 j1 nj1 k1 nk1 x y z) → Boxed w l m n g i2 ni2 j2 nj2 k2 nk2 d f
@@ -67,16 +60,6 @@ module _ {A : Type 0} {w l m n : ℕ} {g : ℕ → ℕ → ℕ → List A} where
         size = b.size ∙ a.size;
         items = λ x y z hx hy hz. rw (b.items x y z hx hy hz, a.items x y z hx hy hz, or x y z, cond_or);
       }
-
-  -- a box of no items
-  pub boxed_none0 : (i j nj k nk : ℕ) (d : List A) → Boxed w l m n g i 0 j nj k nk d d
-  boxed_none0 i j nj k nk d = boxed_same i 0 j nj k nk d (λ x y z. rw (between_none i x))
-
-  pub boxed_none1 : (i ni j k nk : ℕ) (d : List A) → Boxed w l m n g i ni j 0 k nk d d
-  boxed_none1 i ni j k nk d = boxed_same i ni j 0 k nk d (λ x y z. rw (between_none j y, and-false))
-
-  pub boxed_none2 : (i ni j nj k : ℕ) (d : List A) → Boxed w l m n g i ni j nj k 0 d d
-  boxed_none2 i ni j nj k d = boxed_same i ni j nj k 0 d (λ x y z. simp (between_none k z, and-false))
 
   -- a box, and one beside it along each direction
   pub boxed_more0 : {i ni c j nj k nk : ℕ} {d e f : List A} → Boxed w l m n g i ni j nj k nk d e → Boxed w l m n g (i + ni) c j nj k nk e f → Boxed w l m n g i (ni + c) j nj k nk d f

@@ -1,5 +1,5 @@
 -- The numbers of a lattice: they are those of the region's places, and none of their sums and products wraps. Assumes nothing.
-use Prim.Native.Nat.{ℕ, ◌+◌, ◌-◌, ◌*◌, ◌/◌, ◌%◌, ◌≤◌, ◌<◌}
+use Prim.Native.Nat.{ℕ, ◌+◌, ◌*◌, ◌/◌, ◌%◌, ◌≤◌, ◌<◌}
 use mathlib.Core.Bool.{true}
 use mathlib.Core.Path.{◌≡◌, sym, ap, subst, ◌∙◌}
 use mathlib.Core.List.{List}
@@ -119,10 +119,6 @@ module _ (r : Record) (g : Region) (q : Lattice) (i j k : ℕ) (p : Placed r g q
   pub item_made : (((q.start0 + i) % q.side0) * q.side1 + (q.start1 + j) % q.side1) * q.side2 + (q.start2 + k) % q.side2 ≡ item_no r (place g i j k)
   unfolding lattice_of item_no
   item_made = ap (λ (x : Lattice). (((x.start0 + i) % x.side0) * x.side1 + (x.start1 + j) % x.side1) * x.side2 + (x.start2 + k) % x.side2) p.laid
-
-  pub left_made : q.side2 - (q.start2 + k) % q.side2 ≡ side_of r.description 2 - (start_of g 2 + k) % side_of r.description 2
-  unfolding lattice_of
-  left_made = ap (λ (x : Lattice). x.side2 - (x.start2 + k) % x.side2) p.laid
 
   -- the entry is one of the table, which can be read in a file of the record's length
   table_is : q.table ≡ table_in r

@@ -1,5 +1,5 @@
 -- The rows of a box: where each lies in its brick, in the file and in the buffer, and that none of these numbers wraps. Assumes nothing.
-use Prim.Native.Nat.{ℕ, ◌+◌, ◌-◌, ◌*◌, ◌/◌, ◌%◌, ◌≤◌, ◌<◌, min}
+use Prim.Native.Nat.{ℕ, ◌+◌, ◌*◌, ◌/◌, ◌%◌, ◌≤◌, ◌<◌}
 use mathlib.Core.Path.{◌≡◌, sym, ap, ◌∙◌}
 use mathlib.Core.List.{List}
 use native.Mathlib.Omega.{arith}
@@ -14,13 +14,12 @@ use Rattle.table.specs.declared.Kind.TheVariants.{Stored}
 use Rattle.cube.specs.declared.Region.{Region}
 use Rattle.cube.specs.Places.{item_bytes, kind_in, brick_of, item_no}
 use Rattle.cube.specs.Regions.{start_of, run_of, place, size_of}
-use Rattle.cube.proofs.Places.{sides}
 use Rattle.runs.specs.declared.Lattice.{Lattice}
 use Rattle.runs.specs.Runs.{lattice_of, Placed, Ready}
 use Rattle.runs.specs.Boxes.{Along, Rows, Block}
 use Rattle.runs.proofs.Lattices.{Numbers, numbers, item_made}
 use Rattle.runs.proofs.Steps.{ready_fit, placed, counts}
-use Rattle.runs.proofs.Boxes.{run_room, rows-room, along, inline-brick, inline-item, row_brick, row_item, row_fits, rows_fit}
+use Rattle.runs.proofs.Boxes.{run_room, rows-room, inline-brick, inline-item, row_brick, row_item, row_fits, rows_fit}
 
 -- ---- in the buffer
 
@@ -52,23 +51,6 @@ module _ {r : Record} {f : List ℕ} {g : Region} {q : Lattice} (ready : Ready r
   -- the numbers of a sample
   pub numbers_at : (i j k : ℕ) → i < run_of g 0 → j < run_of g 1 → k < run_of g 2 → Numbers q i j k
   numbers_at i j k hi hj hk = numbers r g q i j k (placed r f g q ready i j k hi hj hk)
-
-  -- what `left` answers along each direction
-  module _ (at n c : ℕ) (h : at < n) where
-    pub along0 : n ≡ q.count0 → c ≡ min (q.side0 - (q.start0 + at) % q.side0) (n - at) → Along r g 0 at c
-    unfolding lattice_of
-    along0 e ec =
-        along r g 0 at n c (sides r (ready_fit r f g q ready)).0 h (e ∙ (counts r f g q ready).0) (ec ∙ ap (λ (x : Lattice). min (x.side0 - (x.start0 + at) % x.side0) (n - at)) ready.laid)
-
-    pub along1 : n ≡ q.count1 → c ≡ min (q.side1 - (q.start1 + at) % q.side1) (n - at) → Along r g 1 at c
-    unfolding lattice_of
-    along1 e ec =
-        along r g 1 at n c (sides r (ready_fit r f g q ready)).1 h (e ∙ (counts r f g q ready).1) (ec ∙ ap (λ (x : Lattice). min (x.side1 - (x.start1 + at) % x.side1) (n - at)) ready.laid)
-
-    pub along2 : n ≡ q.count2 → c ≡ min (q.side2 - (q.start2 + at) % q.side2) (n - at) → Along r g 2 at c
-    unfolding lattice_of
-    along2 e ec =
-        along r g 2 at n c (sides r (ready_fit r f g q ready)).2 h (e ∙ (counts r f g q ready).2) (ec ∙ ap (λ (x : Lattice). min (x.side2 - (x.start2 + at) % x.side2) (n - at)) ready.laid)
 
 -- a run of a direction has its first sample
 pub along_in : {r : Record} {g : Region} {d at n : ℕ} → Along r g d at n → at < run_of g d
@@ -141,9 +123,6 @@ module _ {r : Record} {f : List ℕ} {g : Region} {q : Lattice} {κ : Kind} {m i
 -- ---- the inlines of a box
 
 module _ {r : Record} {f : List ℕ} {g : Region} {q : Lattice} (ready : Ready r f g q) {i j k ni nj nk : ℕ} (ai : Along r g 0 i ni) (aj : Along r g 1 j nj) (ak : Along r g 2 k nk) where
-  pub box_placed : Placed r g q i j k
-  box_placed = placed r f g q ready i j k (along_in ai) (along_in aj) (along_in ak)
-
   -- the t-th inline
   pub inline_of : {κ : Kind} {m t : ℕ} → κ ≡ kind_in r f (brick_of r (place g i j k)) → m ≡ item_no r (place g i j k) → t < ni → Rows r f g q κ (m + t * (q.side1 * q.side2)) (i + t) j k nj nk
   inline_of {κ} {m} {t} kind item l =

@@ -1,19 +1,21 @@
 -- What a site knows of its samples. Assumes nothing.
-use Prim.Native.Nat.{ℕ, ◌+◌, ◌-◌, ◌%◌, ◌<◌}
+use Prim.Native.Nat.{ℕ, zero, suc, ◌+◌, ◌-◌, ◌%◌, ◌≤◌, ◌<◌, min}
 use mathlib.Core.Bool.{true}
-use mathlib.Core.Path.{◌≡◌, ap}
+use mathlib.Core.Path.{◌≡◌, refl, ap, ◌∙◌}
 use native.Mathlib.Omega.{arith}
 use Rattle.checks.specs.Checks.{side_ok}
 use Rattle.checks.proofs.Described.{described_sides}
 use Rattle.checks.proofs.Records.{fits_all}
 use Rattle.record.specs.Record.{side_of}
 use Rattle.cube.specs.Places.{Inside}
-use Rattle.cube.specs.Regions.{start_of, place}
+use Rattle.cube.specs.Regions.{start_of, run_of, place}
 use Rattle.runs.specs.declared.Lattice.{Lattice}
 use Rattle.runs.specs.declared.site.Site.{Site}
 use Rattle.runs.specs.declared.site.View.{View}
+use Rattle.runs.specs.Boxes.{Along}
 use Rattle.runs.specs.Runs.{lattice_of, Placed}
-use Rattle.runs.proofs.Lattices.{Numbers, numbers}
+use Rattle.runs.proofs.Boxes.{along}
+use Rattle.runs.proofs.Lattices.{side-pos, Numbers, numbers}
 use Rattle.runs.proofs.Steps.{counts}
 use Rattle.runs.proofs.Rows.{numbers_at}
 
@@ -37,7 +39,29 @@ module _ (s : Site) where
   unfolding lattice_of
   site_left k = ap (λ (x : Lattice). x.side2 - (x.start2 + k) % x.side2) s.laid.laid
 
--- what a walk asks along each direction, and what `left` answers there
+-- the lattice's numbers along a direction
+abbrev pub side_on : Lattice → ℕ → ℕ
+side_on q zero = q.side0
+side_on q (suc zero) = q.side1
+side_on q (suc (suc d)) = q.side2
+
+abbrev pub start_on : Lattice → ℕ → ℕ
+start_on q zero = q.start0
+start_on q (suc zero) = q.start1
+start_on q (suc (suc d)) = q.start2
+
+abbrev pub count_on : Lattice → ℕ → ℕ
+count_on q zero = q.count0
+count_on q (suc zero) = q.count1
+count_on q (suc (suc zero)) = q.count2
+count_on q (suc (suc (suc d))) = 0
+
+-- a turn of the walk along a direction, from at on: the c samples that lie in the brick of the first
+pub record Turn (v : View) (d at c : ℕ) : Type 0 where
+  pub along : Along v.site.record.now v.site.region.now d at c
+  pub some : 0 < c
+  pub next : at + c ≤ count_on v.site.lattice d
+
 module _ (v : View) where
   abbrev grid : Lattice
   grid = v.site.lattice
@@ -50,11 +74,29 @@ module _ (v : View) where
   some_of : (0 < grid.count0) × (0 < grid.count1) × (0 < grid.count2)
   some_of = let n = counts _ _ _ _ v.ready in let s = v.some in (omega (arith, n, s.inline), omega (arith, n, s.crossline), omega (arith, n, s.vertical))
 
-  pub asks0 : {at : ℕ} → at < grid.count0 → (side_ok grid.side0 ≡ true) × (grid.start0 + at < 4294967296)
-  asks0 {at} h = let n = numbers_from at 0 0 h some_of.1 some_of.2 in (n.ok0, omega (arith, n.at0))
+  -- what `left` asks
+  pub asks_on : (d : ℕ) {at : ℕ} → at < count_on grid d → (side_ok (side_on grid d) ≡ true) × (start_on grid d + at < 4294967296)
+  asks_on zero {at} h = let n = numbers_from at 0 0 h some_of.1 some_of.2 in (n.ok0, omega (arith, n.at0))
+  asks_on (suc zero) {at} h = let n = numbers_from 0 at 0 some_of.0 h some_of.2 in (n.ok1, omega (arith, n.at1))
+  asks_on (suc (suc zero)) {at} h = let n = numbers_from 0 0 at some_of.0 some_of.1 h in (n.ok2, omega (arith, n.at2))
+  asks_on (suc (suc (suc d))) h = absurd (omega arith)
 
-  pub asks1 : {at : ℕ} → at < grid.count1 → (side_ok grid.side1 ≡ true) × (grid.start1 + at < 4294967296)
-  asks1 {at} h = let n = numbers_from 0 at 0 some_of.0 h some_of.2 in (n.ok1, omega (arith, n.at1))
+  -- the numbers are those of the record and of the region
+  numbers_on : (d : ℕ) → d ≤ 2
+      → (side_on grid d ≡ side_of v.site.record.now.description d) × (start_on grid d ≡ start_of v.site.region.now d) × (count_on grid d ≡ run_of v.site.region.now d)
+  unfolding lattice_of
+  numbers_on zero l = rw v.ready.laid (refl, refl, refl)
+  numbers_on (suc zero) l = rw v.ready.laid (refl, refl, refl)
+  numbers_on (suc (suc zero)) l = rw v.ready.laid (refl, refl, refl)
+  numbers_on (suc (suc (suc d))) l = absurd (omega arith)
 
-  pub asks2 : {at : ℕ} → at < grid.count2 → (side_ok grid.side2 ≡ true) × (grid.start2 + at < 4294967296)
-  asks2 {at} h = let n = numbers_from 0 0 at some_of.0 some_of.1 h in (n.ok2, omega (arith, n.at2))
+  -- what `left` answers
+  pub turn_on : (d : ℕ) {at c : ℕ} → d ≤ 2 → at < count_on grid d → c ≡ min (side_on grid d - (start_on grid d + at) % side_on grid d) (count_on grid d - at) → Turn v d at c
+  turn_on d {at} {c} l h e =
+      let n = numbers_on d l in
+      let t = along _ _ d at (count_on grid d) c (rw n.0 at (side-pos _ (asks_on d h).0)) h n.2 (rw (← n.0, ← n.1) e) in
+      record { along = t; some = t.some; next = rw n.2 t.within }
+
+  -- where it ends
+  pub end_on : (d : ℕ) {at : ℕ} → d ≤ 2 → at ≡ count_on grid d → at ≡ run_of v.site.region.now d
+  end_on d l e = e ∙ (numbers_on d l).2
