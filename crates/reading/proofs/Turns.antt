@@ -4,12 +4,12 @@ use mathlib.Core.Path.{◌≡◌, refl, sym, ap, ◌∙◌}
 use mathlib.Core.List.{List, ◌++◌}
 use mathlib.Core.Logic.{⊎_elim}
 use native.Mathlib.Omega.{arith}
-use native.Mathlib.Nat.{le_trans, add-sub_cancel_left, add-mul, zero-mul, zero-add, suc-mul, mul-le-mul_right, le-mul_of_pos_right}
+use native.Mathlib.Nat.{le_trans, add-mul, zero-mul, zero-add, suc-mul, mul-le-mul_right, le-mul_of_pos_right}
 use lib.ListN.{length}
 use lib.Seq.{take-add, drop-drop}
 use borrow.Rule.Slice.PartMut.{put_mid}
 use Rattle.endian.specs.Loops.{cat, tri}
-use Rattle.endian.specs.Bytes.{peek, lows}
+use Rattle.endian.specs.Bytes.{lows}
 use Rattle.record.specs.declared.Record.{Record}
 use Rattle.table.specs.Entries.{Width}
 use Rattle.table.specs.declared.Kind.{Kind}
@@ -27,16 +27,9 @@ use Rattle.runs.specs.Boxes.{Rows, Block}
 use Rattle.runs.proofs.Boxes.{boxed_more0, boxed_more1, boxed_run, boxed_rows}
 use Rattle.runs.proofs.Steps.{ready_fit, ready-width, ready-missing, counts, width_of}
 use Rattle.reading.specs.Items.{items_of, RawBox}
-use Rattle.runs.proofs.Rows.{Spot, along_in, rows-small, rows-ends, rows_spot, inline_at, row_of, all_run, top, columns_ends, columns_spot}
+use Rattle.runs.proofs.Rows.{Spot, along_in, rows-ends, rows_spot, inline_at, row_of, all_run, top, columns_ends, columns_spot}
 
 -- ---- the items of one brick
-
--- the items of a brick of this kind
-pub by_kind : (f : List ℕ) (w v₀ : ℕ) (κ κ' : Kind) (m n : ℕ) (ys : List ℕ) → κ ≡ κ' → ys ≡ items_of f w v₀ κ' m n → ys ≡ items_of f w v₀ κ m n
-by_kind f w v₀ κ κ' m n ys e y = y ∙ ap (λ (x : Kind). items_of f w v₀ x m n) (sym e)
-
-pub copied : (f : List ℕ) (w v₀ o m n : ℕ) (ys : List ℕ) → ys ≡ peek f (o + m * w) (o + m * w + n * w - (o + m * w)) → ys ≡ items_of f w v₀ (Stored o) m n
-copied f w v₀ o m n ys y = rw (add-sub_cancel_left (o + m * w) (n * w)) at y
 
 -- items, and those after them
 items-add : (f : List ℕ) (w v₀ : ℕ) (κ : Kind) (m a b : ℕ) → items_of f w v₀ κ m (a + b) ≡ items_of f w v₀ κ m a ++ items_of f w v₀ κ (m + a) b
@@ -89,26 +82,31 @@ module _ {r : Record} {f : List ℕ} {g : Region} {q : Lattice} (ready : Ready r
   sample-bytes : (x y z : ℕ) → x < run_of g 0 → y < run_of g 1 → z < run_of g 2 → length (raw_of r (rows_of r f (place g x y z))) ≡ item_bytes r
   sample-bytes x y z hx hy hz = row_width r f (place g x y z) (λ o e. le_trans (item-fits r (ready_fit r f g q ready) o (place g x y z)) (ready.ends x y z hx hy hz o e).high)
 
--- the first row, and whole columns: what `read_items` asks, where the bytes stand, and the box that they make
-module _ {r : Record} {f : List ℕ} {g : Region} {q : Lattice} {κ : Kind} {m i j k nj nk w : ℕ} (h : Rows r f g q κ m i j k nj nk) (ew : w ≡ item_bytes r) where
-  pub row_asks : Width w × ((o : ℕ) → κ ≡ Stored o → o + (m + nk) * w ≤ length f)
-  row_asks = rw ew (width_of r f g q h.ready, rows-ends h)
+-- what `read_items` asks of the first row
+pub row_stored : {r : Record} {f : List ℕ} {g : Region} {q : Lattice} {κ : Kind} {m i j k nj nk : ℕ} → Rows r f g q κ m i j k nj nk
+    → (o : ℕ) → κ ≡ Stored o → o + (m + nk) * q.width ≤ length f
+row_stored {r} {f} {g} {q} h = rw (ready-width r f g q h.ready) (rows-ends h)
+
+-- the first row, and whole columns: where the bytes stand, and the box that they make; w is the lattice's width
+module _ {r : Record} {f : List ℕ} {g : Region} {q : Lattice} {κ : Kind} {m i j k nj nk w : ℕ} (h : Rows r f g q κ m i j k nj nk) (ew : w ≡ q.width) where
+  wide : q.width ≡ item_bytes r
+  wide = ready-width r f g q h.ready
 
   pub row_at : (room : ℕ) → room ≡ size_of g * item_bytes r → Bytes q.count1 q.count2 i j k nk w room
-  row_at room size = rw ew (bytes (item_bytes r) room (rows_spot h) (some_bytes h.ready) size)
+  row_at room size = rw (ew, wide) (bytes (item_bytes r) room (rows_spot h) (some_bytes h.ready) size)
 
-  pub row_box : (s e : ℕ) (d ys : List ℕ) → length d ≡ size_of g * item_bytes r → s ≡ tri q.count1 q.count2 i j k * w → e ≡ s + nk * w → ys ≡ items_of f w q.missing.value κ m nk
-      → RawBox r f g i 1 j 1 k nk d (put_mid s (e - s) d ys)
+  pub row_box : (s e : ℕ) (d ys : List ℕ) → length d ≡ size_of g * item_bytes r → s ≡ tri q.count1 q.count2 i j k * w → e ≡ s + nk * w
+      → ys ≡ items_of f q.width q.missing.value κ m nk → RawBox r f g i 1 j 1 k nk d (put_mid s (e - s) d ys)
   row_box s e d ys size es ee y =
       let n = counts r f g q h.ready in
-      boxed_run i j k nk s e d ys (sample-bytes h.ready) size h.in_i (along_in h.in_j) h.in_k.within (es ∙ rw (n.1, n.2, ew)) (ee ∙ rw ew) (y ∙ rw ew (row_bytes h))
+      boxed_run i j k nk s e d ys (sample-bytes h.ready) size h.in_i (along_in h.in_j) h.in_k.within (es ∙ rw (n.1, n.2, ew, wide)) (ee ∙ rw (ew, wide)) (y ∙ rw wide (row_bytes h))
 
   module _ (whole : nk ≡ q.side2) (all : nk ≡ q.count2) where
-    pub columns_asks : Width w × ((o : ℕ) → κ ≡ Stored o → o + (m + nj * nk) * w ≤ length f)
-    columns_asks = rw ew (width_of r f g q h.ready, columns_ends h whole all)
+    pub columns_stored : (o : ℕ) → κ ≡ Stored o → o + (m + nj * nk) * q.width ≤ length f
+    columns_stored = rw wide (columns_ends h whole all)
 
     pub columns_at : (room : ℕ) → room ≡ size_of g * item_bytes r → Bytes q.count1 nk i j 0 (nj * nk) w room
-    columns_at room size = rw ew (bytes (item_bytes r) room (columns_spot h whole all) (some_bytes h.ready) size)
+    columns_at room size = rw (ew, wide) (bytes (item_bytes r) room (columns_spot h whole all) (some_bytes h.ready) size)
 
     column_bytes : (x : ℕ) → x < nj → items_of f (item_bytes r) q.missing.value κ (m + x * nk) nk ≡ cat (run_of g 2) (λ t. raw_of r (rows_of r f (place g i (j + x) t)))
     column_bytes x l =
@@ -116,42 +114,34 @@ module _ {r : Record} {f : List ℕ} {g : Region} {q : Lattice} {κ : Kind} {m i
         ap (λ (z : ℕ). items_of f (item_bytes r) q.missing.value κ (m + x * z) nk) whole ∙ row_bytes (row_of h l)
         ∙ ap (λ (z : ℕ). cat z (λ t. row (k + t))) (all_run h whole all) ∙ cat-same (run_of g 2) _ _ (λ t _. ap row (ap (λ (z : ℕ). z + t) (top h whole all) ∙ zero-add t))
 
-    pub columns_box : (s e : ℕ) (d ys : List ℕ) → length d ≡ size_of g * item_bytes r → s ≡ (i * q.count1 + j) * nk * w → e ≡ s + nj * nk * w → ys ≡ items_of f w q.missing.value κ m (nj * nk)
-        → RawBox r f g i 1 j nj k nk d (put_mid s (e - s) d ys)
+    pub columns_box : (s e : ℕ) (d ys : List ℕ) → length d ≡ size_of g * item_bytes r → s ≡ (i * q.count1 + j) * nk * w → e ≡ s + nj * nk * w
+        → ys ≡ items_of f q.width q.missing.value κ m (nj * nk) → RawBox r f g i 1 j nj k nk d (put_mid s (e - s) d ys)
     columns_box s e d ys size es ee y =
         let n = all_run h whole all in
         rw (top h whole all, n)
-        (boxed_rows i j nj s e d ys (sample-bytes h.ready) size h.in_i h.in_j.within (es ∙ rw ((counts r f g q h.ready).1, n, ew) (omega arith)) (ee ∙ rw (n, ew))
-        (y ∙ rw ew (sym (items-join f (item_bytes r) q.missing.value κ m nk nj) ∙ cat-same nj _ _ column_bytes)))
+        (boxed_rows i j nj s e d ys (sample-bytes h.ready) size h.in_i h.in_j.within (es ∙ rw ((counts r f g q h.ready).1, n, ew, wide) (omega arith)) (ee ∙ rw (n, ew, wide))
+        (y ∙ rw wide (sym (items-join f (item_bytes r) q.missing.value κ m nk nj) ∙ cat-same nj _ _ column_bytes)))
 
 -- ---- a turn of the loops over rows and over inlines: w is the lattice's width, d the buffer
 
 module _ {r : Record} {f : List ℕ} {g : Region} {q : Lattice} {κ : Kind} {m i j k nj nk w : ℕ} (h : Rows r f g q κ m i j k nj nk) (ew : w ≡ q.width) where
-  pub wide : w ≡ item_bytes r
-  wide = ew ∙ ready-width r f g q h.ready
-
-  pub turn_asks : {t : ℕ} → t < nj → Width w × ((o : ℕ) → κ ≡ Stored o → o + (m + t * q.side2 + nk) * w ≤ length f)
-  turn_asks l = row_asks (row_of h l) wide
-
   pub turn_at : {t room : ℕ} → room ≡ size_of g * item_bytes r → t < nj → Bytes q.count1 q.count2 i (j + t) k nk w room
-  turn_at {t} {room} size l = row_at (row_of h l) wide room size
-
-  pub turn_small : {t : ℕ} → t < nj → m + t * q.side2 < 16777216
-  turn_small l = rows-small (row_of h l)
+  turn_at {t} {room} size l = row_at (row_of h l) ew room size
 
   pub turn_box : {t : ℕ} {d d' ys : List ℕ} → length d ≡ size_of g * item_bytes r → RawBox r f g i 1 j t k nk d d' → t < nj
-      → ys ≡ items_of f w q.missing.value κ (m + t * q.side2) nk
+      → ys ≡ items_of f q.width q.missing.value κ (m + t * q.side2) nk
       → (let s : ℕ = ((i * q.count1 + (j + t)) * q.count2 + k) * w in RawBox r f g i 1 j (t + 1) k nk d (put_mid s (s + nk * w - s) d' ys))
-  turn_box size b l y = boxed_more1 b (row_box (row_of h l) wide _ _ _ _ (b.size ∙ size) refl refl y)
+  turn_box size b l y = boxed_more1 b (row_box (row_of h l) ew _ _ _ _ (b.size ∙ size) refl refl y)
 
 module _ {r : Record} {f : List ℕ} {g : Region} {q : Lattice} {κ : Kind} {m i ni j nj k nk w : ℕ} (h : Block r f g q κ m i ni j nj k nk) (ew : w ≡ q.width) where
-  pub line_asks : {t : ℕ} → t < ni → Width w × ((o : ℕ) → κ ≡ Stored o → o + (m + t * (q.side1 * q.side2) + nk) * w ≤ length f)
-  line_asks l = row_asks (inline_at h l) (wide (inline_at h l) ew)
-
   pub line_at : {t room : ℕ} → room ≡ size_of g * item_bytes r → t < ni → Bytes q.count1 q.count2 (i + t) j k nk w room
-  line_at {t} {room} size l = row_at (inline_at h l) (wide (inline_at h l) ew) room size
+  line_at {t} {room} size l = row_at (inline_at h l) ew room size
 
   pub line_box : {t : ℕ} {d d' ys : List ℕ} → length d ≡ size_of g * item_bytes r → RawBox r f g i t j 1 k nk d d' → t < ni
-      → ys ≡ items_of f w q.missing.value κ (m + t * (q.side1 * q.side2)) nk
+      → ys ≡ items_of f q.width q.missing.value κ (m + t * (q.side1 * q.side2)) nk
       → (let s : ℕ = (((i + t) * q.count1 + j) * q.count2 + k) * w in RawBox r f g i (t + 1) j 1 k nk d (put_mid s (s + nk * w - s) d' ys))
-  line_box size b l y = boxed_more0 b (row_box (inline_at h l) (wide (inline_at h l) ew) _ _ _ _ (b.size ∙ size) refl refl y)
+  line_box size b l y = boxed_more0 b (row_box (inline_at h l) ew _ _ _ _ (b.size ∙ size) refl refl y)
+
+-- the lattice's width is one of an item
+pub view_width : {r : Record} {f : List ℕ} {g : Region} {q : Lattice} {w : ℕ} → Ready r f g q → w ≡ q.width → Width w
+view_width {r} {f} {g} {q} h e = rw (e, ready-width r f g q h) (width_of r f g q h)

@@ -15,7 +15,7 @@ ghost use Rattle.cube.specs.Regions.{size_of, raw_rows, raw_verdict, over};
 ghost use Rattle.runs.specs.Views.{only, IsCorner, IsRowCorner, Roomy, Filled};
 ghost use Rattle.reading.specs.Items.{items_of, raw_at};
 
-use cube::{MissingBrick, Region};
+use cube::Region;
 use endian::copy;
 use record::{Record, Refusal};
 use regions::raw_verdict;
@@ -61,27 +61,21 @@ fn fill_items(out: &mut [u8], value: u32, n: usize, w: usize)
     }
 }
 
-// n items of a brick of this kind, from this item on; `missing` is what a missing one reads as.
-fn read_items(
-    out: &mut [u8],
-    file: &[u8],
-    missing: MissingBrick,
-    kind: Kind,
-    item: usize,
-    n: usize,
-    w: usize,
-)
-    requires width { Width w × (length out.old ≡ n * w) }
-    requires by_index { (o : ℕ) → kind ≡ Stored o → o + (item + n) * w ≤ length file.now }
-    ensures { out.new ≡ items_of file.now w missing.value kind item n }
+// n items of a brick, from the corner's on.
+fn read_items(out: &mut [u8], v: &View, corner: Corner, n: usize)
+    requires room { length out.old ≡ n * v.now.site.lattice.width }
+    requires stored { (o : ℕ) → corner.kind ≡ Stored o → o + (corner.item + n) * v.now.site.lattice.width ≤ length v.now.file.now }
+    ensures { out.new ≡ items_of v.now.file.now v.now.site.lattice.width v.now.site.lattice.missing.value corner.kind corner.item n }
 {
-    match kind {
-        Kind::Missing => fill_items(out, missing.value, n, w),
+    let q = v.site.lattice;
+    let w = index(q.width);
+    match corner.kind {
+        Kind::Missing => fill_items(out, q.missing.value, n, w),
         Kind::Constant(value) => fill_items(out, value, n, w),
         Kind::Stored(offset) => {
-            let p = offset as usize + item * w;
+            let p = offset as usize + corner.item * w;
             let e = p + n * w;
-            copy(out, &file[p..e]);
+            copy(out, &v.file[p..e]);
         }
     }
 }
@@ -97,15 +91,11 @@ fn read_rows(out: &mut [u8], v: &View, corner: Corner, i: usize, j: Span, k: Spa
     for t in 0..j.n {
         let a = ((i * q.count1 + (j.at + t)) * q.count2 + k.at) * w;
         let e = a + k.n * w;
-        read_items(
-            &mut out[a..e],
-            v.file,
-            q.missing,
-            corner.kind,
-            corner.item + t * q.side2,
-            k.n,
-            w,
-        );
+        let row = Corner {
+            kind: corner.kind,
+            item: corner.item + t * q.side2,
+        };
+        read_items(&mut out[a..e], v, row, k.n);
     }
 }
 
@@ -121,15 +111,7 @@ fn read_plane(out: &mut [u8], v: &View, corner: Corner, i: usize, j: Span, k: Sp
         let n = j.n * k.n;
         let a = (i * q.count1 + j.at) * k.n * w;
         let e = a + n * w;
-        read_items(
-            &mut out[a..e],
-            v.file,
-            q.missing,
-            corner.kind,
-            corner.item,
-            n,
-            w,
-        );
+        read_items(&mut out[a..e], v, corner, n);
     } else {
         read_rows(out, v, corner, i, j, k);
     }
@@ -164,15 +146,11 @@ fn read_lines(out: &mut [u8], v: &View, corner: Corner, b: BrickBox)
     for t in 0..b.i.n {
         let a = (((b.i.at + t) * q.count1 + b.j.at) * q.count2 + b.k.at) * w;
         let e = a + b.k.n * w;
-        read_items(
-            &mut out[a..e],
-            v.file,
-            q.missing,
-            corner.kind,
-            corner.item + t * plane,
-            b.k.n,
-            w,
-        );
+        let line = Corner {
+            kind: corner.kind,
+            item: corner.item + t * plane,
+        };
+        read_items(&mut out[a..e], v, line, b.k.n);
     }
 }
 

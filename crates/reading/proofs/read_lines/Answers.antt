@@ -1,9 +1,9 @@
 use Prim.Native.Nat.{ℕ}
 use mathlib.Core.Path.{◌≡◌, sym, subst}
 use native.Mathlib.Omega.{arith}
-use Rattle.runs.proofs.Rows.{plane_small, inline-small}
+use Rattle.runs.proofs.Rows.{plane_small, inline-small, inline_at}
 use Rattle.reading.specs.Items.{RawBox}
-use Rattle.reading.proofs.Turns.{line_asks, line_at, line_box}
+use Rattle.reading.proofs.Turns.{row_stored, line_at, line_box}
 use Rattle.reading.proofs.read_lines.Goals as goal
 
 pub overflow_mul-plane : goal.overflow_mul-plane
@@ -30,16 +30,15 @@ overflow_add-e c = omega (arith, line_at c.requires.corner.0 c.index-w.ensures.0
 pub slice_bounds-read_items-end : goal.slice_bounds-read_items-end
 slice_bounds-read_items-end c = omega (arith, line_at c.requires.corner.0 c.index-w.ensures.0 c.requires.room c.loop-t-test.true, c.loop-t.invariant.0.size)
 
-pub overflow_mul-t : goal.overflow_mul-t
-overflow_mul-t c = omega (arith, inline-small c.requires.corner.0 c.loop-t-test.true)
+pub overflow_mul-line : goal.overflow_mul-line
+overflow_mul-line c = omega (arith, inline-small c.requires.corner.0 c.loop-t-test.true)
 
-pub overflow_add-corner : goal.overflow_add-corner
-overflow_add-corner c = omega (arith, inline-small c.requires.corner.0 c.loop-t-test.true)
+pub overflow_add-line : goal.overflow_add-line
+overflow_add-line c = omega (arith, inline-small c.requires.corner.0 c.loop-t-test.true)
 
 pub read_items-requires : goal.read_items-requires
 read_items-requires c =
-    let asks = line_asks c.requires.corner.0 c.index-w.ensures.0 c.loop-t-test.true in
-    record { width = (asks.0, omega arith); by_index = asks.1 }
+    record { room = rw (← c.index-w.ensures.0) (omega arith); stored = row_stored (inline_at c.requires.corner.0 c.loop-t-test.true) }
 
 pub loop-t-preserved : goal.loop-t-preserved
 loop-t-preserved c = (
