@@ -3,7 +3,7 @@ use Prim.Native.Nat.{ℕ, ◌+◌, ◌-◌, ◌≤◌}
 use mathlib.Core.Path.{◌≡◌, sym, ap, ap₂, ◌∙◌}
 use mathlib.Core.List.{List, ◌++◌, append-nil}
 use native.Mathlib.Omega.{arith}
-use lib.ListN.{length, take, drop, length-append, length-drop, take-append-drop, drop_of_length-le}
+use lib.ListN.{length, take, drop, length-drop, take-append-drop, drop_of_length-le}
 use lib.Seq.{take_all, take_at, take-take, take-append-le, take-add, drop-drop}
 use borrow.Rule.Slice.PartMut.{put_mid, mid_of}
 use Rattle.endian.specs.Bytes.{peek, put}
@@ -27,14 +27,8 @@ module _ (f : List ℕ) (at size : ℕ) (fits : at + size ≤ length f) where
 
 -- ---- the front of a buffer, which holds ys
 module _ (ys zs : List ℕ) (size : ℕ) (long : length ys ≡ size) where
-  pub front_within : size ≤ length (ys ++ zs)
-  front_within = rw length-append (omega arith)
-
   pub front_is : take size (ys ++ zs) ≡ ys
   front_is = take_at ys zs size long
-
-  pub front_length : length (take size (ys ++ zs)) ≡ size
-  front_length = ap length front_is ∙ long
 
 -- ---- a block in two pieces, the first of m bytes
 module _ (src out : List ℕ) (at m size : ℕ) (less : m ≤ size) (in_src : at + size ≤ length src) (in-out : at + size ≤ length out) where

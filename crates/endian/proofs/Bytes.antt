@@ -2,11 +2,12 @@
 use Prim.Native.Nat.{ℕ, zero, suc, ◌+◌, ◌*◌, ◌/◌, ◌%◌, ◌^◌, ◌≤◌, ◌<◌}
 use mathlib.Core.Path.{◌≡◌, refl, sym, ap, ap₂, ◌∙◌}
 use mathlib.Core.List.{List, ◌∷◌}
-use native.Mathlib.Nat.{pow-suc, add-zero, add_assoc, div-lt_iff_lt-mul}
+use native.Mathlib.Nat.{pow-suc, add-zero, add_assoc, div-lt_iff_lt-mul, div-one, div-div-eq-div-mul}
 use native.Mathlib.Numerals.{add-one}
 use native.Mathlib.Omega.{arith}
-use lib.ListN.{get_or, drop}
+use lib.ListN.{get_or, take, drop}
 use lib.Seq.{get_or-take, get_or-drop}
+use Rattle.std.specs.Int.{w32, w64, byte_at, bytes_low_first, to_le_bytes}
 use Rattle.endian.specs.Bytes.{Bytes, peek, le, lows}
 
 -- a number of k bytes is below 256 ^ k
@@ -44,3 +45,26 @@ le-lows (suc k) v h =
     let pos : 0 < 256 = omega arith in
     let l : v / 256 < 256 ^ k = (div-lt_iff_lt-mul pos).1 s in
     omega (arith, le_cons k (v % 256) (lows k (v / 256)) 0, le-lows k (v / 256) l)
+
+-- std's words for the bytes of a number, in the words of the format
+byte_low : (i v : ℕ) → byte_at i v ≡ v / 256 ^ i % 256
+byte_low zero v = ap (λ (n : ℕ). n % 256) (sym (div-one v))
+byte_low (suc i) v = refl
+
+low_first : (i k v : ℕ) → bytes_low_first i k v ≡ lows k (v / 256 ^ i)
+unfolding lows
+low_first i zero v = refl
+low_first i (suc k) v = rw (byte_low i v, low_first (suc i) k v, pow-suc 256 i, div-div-eq-div-mul v (256 ^ i) 256)
+
+pub lows_32 : (v : ℕ) {l : List ℕ} → l ≡ to_le_bytes w32 v → l ≡ lows 4 v
+lows_32 v e = e ∙ low_first 0 4 v ∙ ap (lows 4) (div-one v)
+
+pub lows_64 : (v : ℕ) {l : List ℕ} → l ≡ to_le_bytes w64 v → l ≡ lows 8 v
+lows_64 v e = e ∙ low_first 0 8 v ∙ ap (lows 8) (div-one v)
+
+-- the first of them
+pub lows-front : (w k v : ℕ) → w ≤ k → take w (lows k v) ≡ lows w v
+unfolding lows
+lows-front zero k v h = refl
+lows-front (suc w) zero v h = absurd (omega arith)
+lows-front (suc w) (suc k) v h = ap (λ (l : List ℕ). v % 256 ∷ l) (lows-front w k (v / 256) (omega arith))

@@ -66,8 +66,3 @@ module _ {A : Type 0} where
       → length ys ≡ length (mid_of a (a + w - a) out) → ys ≡ g t → Turns d g n w (put_mid a (a + w - a) out ys) (a + w) (t + 1)
   turns_more {g = g} {w = w} {ys = ys} {t = t} h l k e =
       record { front = filled_part ys h.front (omega arith) (turns_room h l) k (rw e (cat-more t g)); at = omega (arith, h.at); count = omega arith; whole = h.whole }
-
-  pub turns_all : {d : List A} {g : ℕ → List A} {n w : ℕ} {out : List A} {a t : ℕ} → Turns d g n w out a t → n ≤ t → out ≡ cat n g
-  turns_all {g = g} {n = n} {t = t} h l =
-      let e : t ≡ n = omega (arith, h.count) in
-      filled_all h.front (rw (h.at, h.whole, e) (omega arith)) ∙ ap (λ m. cat m g) e

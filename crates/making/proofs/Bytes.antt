@@ -8,7 +8,6 @@ use native.Mathlib.Omega.{arith}
 use lib.Arith.{mod-mul, digits_mod, digits_div}
 use lib.ListN.{length, get_or, take, drop, length-replicate, replicate-append-replicate, get_or-append}
 use lib.Seq.{take_at, drop_at}
-use Rattle.std.specs.Int.{w32, w64, byte_at, bytes_low_first, to_le_bytes}
 use Rattle.endian.specs.Loops.{cat}
 use Rattle.endian.specs.Bytes.{Bytes, le, lows}
 use Rattle.endian.proofs.Bytes.{le_same, le_cons, le-lows}
@@ -16,23 +15,7 @@ use Rattle.endian.proofs.Cats.{length-cat}
 use Rattle.endian.proofs.Puts.{length-lows}
 use Rattle.making.specs.Making.{zero_bytes}
 
--- std's words for the bytes of a number, in the words of the format
-byte_low : (i v : ℕ) → byte_at i v ≡ v / 256 ^ i % 256
-byte_low zero v = ap (λ (n : ℕ). n % 256) (sym (div-one v))
-byte_low (suc i) v = refl
-
-low_first : (i k v : ℕ) → bytes_low_first i k v ≡ lows k (v / 256 ^ i)
-unfolding lows
-low_first i zero v = refl
-low_first i (suc k) v = rw (byte_low i v, low_first (suc i) k v, pow-suc 256 i, div-div-eq-div-mul v (256 ^ i) 256)
-
-pub lows_32 : (v : ℕ) {l : List ℕ} → l ≡ to_le_bytes w32 v → l ≡ lows 4 v
-lows_32 v e = e ∙ low_first 0 4 v ∙ ap (lows 4) (div-one v)
-
-pub lows_64 : (v : ℕ) {l : List ℕ} → l ≡ to_le_bytes w64 v → l ≡ lows 8 v
-lows_64 v e = e ∙ low_first 0 8 v ∙ ap (lows 8) (div-one v)
-
--- they depend on the number's rest alone
+-- the low bytes depend on the number's rest alone
 pub lows_mod : (j v : ℕ) → lows j (v % 256 ^ j) ≡ lows j v
 unfolding lows
 lows_mod zero v = refl

@@ -1,4 +1,3 @@
--- Laws of reading: values as bytes, and what a turn reads of the rows of a box.
-pub mod Values
+-- Laws of reading: what a turn reads of the rows of a box, and what a taken verdict gives.
 pub mod Turns
 pub mod Taken

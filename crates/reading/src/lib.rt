@@ -24,27 +24,18 @@ use runs::walk::{Reader, read_bricks};
 use runs::{index, lattice_of};
 use table::Kind;
 
-// The low w bytes of a value, the lowest first, by division: the promise is for any number of bytes, and to_le_bytes has four.
-fn put_value(out: &mut [u8], value: u32, w: usize)
-    requires { length out.old ≡ w }
-    ensures { out.new ≡ lows w value }
-{
-    let mut x = value;
-    for t in 0..w {
-        out[t] = (x % 256) as u8;
-        x /= 256;
-    }
-}
-
-// n items of one value, each of W bytes, into a part that has room for just these, which each function here asks of the part that it is lent. The end of each is counted by hand: after `chunks_exact_mut` a proof knows no byte of a chunk.
+// n items of one value, each of its low W bytes, into a part that has room for just these, which each function here asks of the part that it is lent.
+// The end of each is counted by hand: after `chunks_exact_mut` a proof knows no byte of a chunk.
 fn fill<const W: usize>(out: &mut [u8], value: u32, n: usize)
-    requires { length out.old ≡ n * W }
+    requires { (W ≤ 4) × (length out.old ≡ n * W) }
     ensures { out.new ≡ cat n (λ t. lows W value) }
 {
+    let bytes = value.to_le_bytes();
+    let item = &bytes[..W];
     let mut a = 0;
     for t in 0..n {
         let e = a + W;
-        put_value(&mut out[a..e], value, W);
+        copy(&mut out[a..e], item);
         a = e;
     }
 }

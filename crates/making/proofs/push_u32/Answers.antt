@@ -1,4 +1,4 @@
-use Rattle.making.proofs.Bytes.{lows_32}
+use Rattle.endian.proofs.Bytes.{lows_32}
 use Rattle.making.proofs.push_u32.Goals as goal
 
 pub returns : goal.returns

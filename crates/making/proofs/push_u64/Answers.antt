@@ -1,4 +1,4 @@
-use Rattle.making.proofs.Bytes.{lows_64}
+use Rattle.endian.proofs.Bytes.{lows_64}
 use Rattle.making.proofs.push_u64.Goals as goal
 
 pub returns : goal.returns
