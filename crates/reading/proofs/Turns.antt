@@ -11,7 +11,6 @@ use borrow.Rule.Slice.PartMut.{put_mid}
 use Rattle.endian.specs.Loops.{cat, tri}
 use Rattle.endian.specs.Bytes.{lows}
 use Rattle.record.specs.declared.Record.{Record}
-use Rattle.table.specs.Entries.{Width}
 use Rattle.table.specs.declared.Kind.{Kind}
 use Rattle.table.specs.declared.Kind.TheVariants.{Missing, Constant, Stored}
 use Rattle.cube.specs.declared.Region.{Region}
@@ -141,7 +140,3 @@ module _ {r : Record} {f : List ℕ} {g : Region} {q : Lattice} {κ : Kind} {m i
       → ys ≡ items_of f q.width q.missing.value κ (m + t * (q.side1 * q.side2)) nk
       → (let s : ℕ = (((i + t) * q.count1 + j) * q.count2 + k) * w in RawBox r f g i (t + 1) j 1 k nk d (put_mid s (s + nk * w - s) d' ys))
   line_box size b l y = boxed_more0 b (row_box (inline_at h l) ew _ _ _ _ (b.size ∙ size) refl refl y)
-
--- the lattice's width is one of an item
-pub view_width : {r : Record} {f : List ℕ} {g : Region} {q : Lattice} {w : ℕ} → Ready r f g q → w ≡ q.width → Width w
-view_width {r} {f} {g} {q} h e = rw (e, ready-width r f g q h) (width_of r f g q h)

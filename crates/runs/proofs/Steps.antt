@@ -78,6 +78,9 @@ module _ (r : Record) (f : List ℕ) (g : Region) (q : Lattice) (h : Ready r f g
   pub width_of : Width (item_bytes r)
   width_of = described-width _ _ ready_fit.is-described
 
+  pub lattice_width : Width q.width
+  lattice_width = rw ready-width width_of
+
   -- and so in a file that keeps the headers
   pub ready-kept : (f' : List ℕ) → Kept r f f' → Ready r f' g q
   ready-kept f' κ =

@@ -47,27 +47,18 @@ le_part f a m b k h l =
 
 -- ---- items of a brick of this kind
 
--- n items of w bytes from item m on, in a brick at o
-pub items_end : (o m n w b size : ℕ) → w ≡ b → o + (m + n) * b ≤ size → o + m * w + n * w ≤ size
-items_end o m n w b size e h = rw e (omega (arith, add-mul m n b))
-
 module _ (r : Record) (f : List ℕ) (κ : Kind) (m n : ℕ) (ys : List Float) where
   pub items-missing : (x : MissingBrick) → x ≡ missing_brick r → κ ≡ Missing → ys ≡ cat n (λ _. x.float ∷ []) → ys ≡ floats_of r f κ m n
   items-missing x ex e made = made ∙ ap (λ (y : MissingBrick). cat n (λ _. y.float ∷ [])) ex ∙ sym (ap (λ (y : Kind). floats_of r f y m n) e)
 
   module _ (range : Range) (er : range ≡ range_of r) where
-    pub items-same : (v : ℕ) (x : Float) → κ ≡ Constant v → x ≡ decode_of r.description.datatype range.min range.max v → ys ≡ cat n (λ _. x ∷ []) → ys ≡ floats_of r f κ m n
-    items-same v x e ex made =
-        made
-        ∙ ap (λ (y : Float). cat n (λ _. y ∷ [])) (ex ∙ ap (λ (y : Range). decode_of r.description.datatype y.min y.max v) er)
-        ∙ sym (ap (λ (y : Kind). floats_of r f y m n) e)
-
-    pub items_read : (o w : ℕ) → κ ≡ Stored o → w ≡ item_bytes r → o + (m + n) * item_bytes r ≤ length f
+    pub items_read : (o w : ℕ) → κ ≡ Stored o → w ≡ item_bytes r → o + (m + n) * w ≤ length f
         → ys ≡ cat n (λ t. decode_of r.description.datatype range.min range.max (le (item_bytes r) (take (o + m * w + n * w - (o + m * w)) (drop (o + m * w) f)) (t * item_bytes r)) ∷ [])
         → ys ≡ floats_of r f κ m n
     items_read o w e ew h made =
         let b : ℕ = item_bytes r in
         let a : ℕ = o + m * b in
+        let h' : o + (m + n) * b ≤ length f = rw ew at h in
         let l : a + n * b ≤ length f = omega (arith, add-mul m n b) in
         made
         ∙ rw (ew, add-sub_cancel_left a (n * b), er)
@@ -76,11 +67,10 @@ module _ (r : Record) (f : List ℕ) (κ : Kind) (m n : ℕ) (ys : List Float) w
 
 -- ---- a row of a box
 
-module _ (r : Record) (f : List ℕ) (g : Region) (q : Lattice) (ready : Ready r f g q) where
-  -- the type is one of the format's
-  pub fitting : Fitting r q
-  unfolding breaks5
-  fitting = record { typed = (ready_fit r f g q ready).is-described.not5; width = ready-width r f g q ready; missing = ready-missing r f g q ready }
+-- the type is one of the format's
+pub fitting : {r : Record} {f : List ℕ} {g : Region} {q : Lattice} → Ready r f g q → Fitting r q
+unfolding breaks5
+fitting {r} {f} {g} {q} ready = record { typed = (ready_fit r f g q ready).is-described.not5; width = ready-width r f g q ready; missing = ready-missing r f g q ready }
 
 module _ (r : Record) (f : List ℕ) (g : Region) (i j k : ℕ) where
   pub constant_is : (v : ℕ) → kind_in r f (brick_of r (place g i j k)) ≡ Constant v → v < 256 ^ item_bytes r
@@ -139,8 +129,8 @@ module _ {r : Record} {f : List ℕ} {g : Region} {q : Lattice} {κ : Kind} {m i
   pub turn_small : {t : ℕ} → t < nj → m + t * q.side2 < 16777216
   turn_small l = rows-small (row_of h l)
 
-  pub turn_stored : {t : ℕ} → t < nj → (o : ℕ) → κ ≡ Stored o → o + (m + t * q.side2 + nk) * item_bytes r ≤ length f
-  turn_stored l = rows-ends (row_of h l)
+  pub turn_stored : {t : ℕ} → t < nj → (o : ℕ) → κ ≡ Stored o → o + (m + t * q.side2 + nk) * q.width ≤ length f
+  turn_stored l = rw (ready-width r f g q h.ready) (rows-ends (row_of h l))
 
   pub turn_box : {t : ℕ} {d d' ys : List Float} → length d ≡ size_of g * 1 → FloatBox r f g i 1 j t k nk d d' → t < nj → (c : ℕ) → c ≡ nk → ys ≡ floats_of r f κ (m + t * q.side2) c
       → (let s : ℕ = (i * q.count1 + (j + t)) * q.count2 + k in FloatBox r f g i 1 j (t + 1) k nk d (put_mid s (s + nk - s) d' ys))

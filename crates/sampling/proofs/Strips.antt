@@ -3,7 +3,7 @@ use Prim.Native.Nat.{ℕ, ◌+◌, ◌-◌, ◌*◌, ◌≤◌, ◌<◌}
 use mathlib.Core.Bool.{true}
 use mathlib.Core.Path.{◌≡◌, refl, sym, ap, ◌∙◌}
 use mathlib.Core.List.{List, [], ◌∷◌}
-use mathlib.Core.Logic.{⊎_elim}
+use mathlib.Core.Logic.{◌⊎◌, ⊎_elim}
 use native.Mathlib.Omega.{arith}
 use native.Mathlib.Nat.{add-mul, add-zero, mul-one, one-mul, zero-add, mul_assoc, mul-le-mul, pow-le-pow_right}
 use lib.Ieee.{Float}
@@ -11,7 +11,7 @@ use lib.ListN.{length}
 use borrow.Rule.Slice.PartMut.{put_mid}
 use Rattle.endian.specs.Loops.{cat}
 use Rattle.endian.specs.Bytes.{peek, le}
-use Rattle.endian.proofs.Cats.{cat-same, cat_part}
+use Rattle.endian.proofs.Cats.{cat-same, length-cat, cat_part}
 use Rattle.endian.proofs.Puts.{length-peek}
 use Rattle.endian.proofs.Bytes.{le-peek}
 use Rattle.record.specs.Record.{side_of}
@@ -23,12 +23,11 @@ use Rattle.table.specs.Entries.{Width}
 use Rattle.table.specs.declared.Kind.{Kind}
 use Rattle.table.specs.declared.Kind.TheVariants.{Missing, Constant, Stored}
 use Rattle.cube.specs.declared.Region.{Region}
-use Rattle.cube.specs.declared.MissingBrick.{MissingBrick}
-use Rattle.cube.specs.Places.{item_bytes, rows_of, float_of, missing_brick}
+use Rattle.cube.specs.Places.{item_bytes, rows_of, float_of}
 use Rattle.cube.specs.Regions.{run_of, place, size_of}
 use Rattle.runs.specs.declared.Lattice.{Lattice}
 use Rattle.runs.specs.Runs.{lattice_of, Ready}
-use Rattle.runs.proofs.Steps.{ready_fit, counts}
+use Rattle.runs.proofs.Steps.{ready_fit, ready-width, lattice_width, counts}
 use Rattle.runs.proofs.Boxes.{rows-room, boxed_more0, boxed_rows}
 use Rattle.runs.specs.Boxes.{Along, Rows, Block}
 use Rattle.runs.proofs.Rows.{rows-ends, row_of, inline_at}
@@ -42,16 +41,22 @@ use Rattle.sampling.proofs.Pieces.{row_floats}
 pub few_bytes : (w : ℕ) → Width w → w ≤ 4
 few_bytes w = ⊎_elim (λ e. omega arith) (⊎_elim (λ e. omega arith) (λ e. omega arith))
 
--- the bytes of at most 64 items
-pub block_room : (n w : ℕ) → n ≤ 64 → w ≤ 4 → n * w ≤ 256
-block_room n w h k = mul-le-mul h k
-
 -- where the t-th sample starts, in a brick at o
 strip_at : (o m s t b : ℕ) → o + m * b + t * (s * b) ≡ o + (m + t * s) * b
 strip_at o m s t b = omega (arith, add-mul m (t * s) b, mul_assoc t s b)
 
-pub strip_end : (o m s t w b size : ℕ) → w ≡ b → o + (m + t * s + 1) * b ≤ size → o + m * w + t * (s * w) + w ≤ size
-strip_end o m s t w b size e h = rw e (omega (arith, strip_at o m s t b, add-mul (m + t * s) 1 b, one-mul b))
+-- the bytes of at most 64 items
+pub strip_block : {r : Record} {f : List ℕ} {g : Region} {q : Lattice} {n : ℕ} → Ready r f g q → n ≤ 64 → n * q.width ≤ 256
+strip_block {q = q} {n = n} ready few = mul-le-mul few (few_bytes q.width (lattice_width _ _ _ _ ready))
+
+-- what gathering n samples of w bytes asks, each s items after the one before
+module _ (f : List ℕ) (o m n s w : ℕ) (ends : (t : ℕ) → t < n → o + (m + t * s + 1) * w ≤ length f) where
+  pub strip_end : (t : ℕ) → t < n → o + m * w + t * (s * w) + w ≤ length f
+  strip_end t l = omega (arith, ends t l, strip_at o m s t w, add-mul (m + t * s) 1 w, one-mul w)
+
+  -- and what it puts together
+  pub strip_long : {bytes : List ℕ} → bytes ≡ cat n (λ t. peek f (o + m * w + t * (s * w)) w) → length bytes ≡ n * w
+  strip_long e = ap length e ∙ length-cat _ _ _ (λ t l. length-peek _ _ _ (strip_end t l))
 
 -- ---- the samples of a brick of this kind
 
@@ -64,18 +69,16 @@ le-item : (n b t : ℕ) (g : ℕ → List ℕ) (bytes : List ℕ) → bytes ≡ 
 le-item n b t g bytes e long h = sym (le-peek b bytes (t * b)) ∙ ap (λ (x : List ℕ). le b x 0) (ap (λ (x : List ℕ). peek x (t * b) b) e ∙ cat_part n b t g long h)
 
 module _ (r : Record) (f : List ℕ) (κ : Kind) (m s n : ℕ) (ys : List Float) where
-  pub strip_missing : (x : MissingBrick) → x ≡ missing_brick r → κ ≡ Missing → ys ≡ cat n (λ _. x.float ∷ []) → ys ≡ strip_of r f κ m s n
-  strip_missing x ex e made =
-      made ∙ ap (λ (y : MissingBrick). cat n (λ _. y.float ∷ [])) ex ∙ cat-same n _ _ (λ t _. sym (cat-one _)) ∙ sym (ap (λ (y : Kind). strip_of r f y m s n) e)
+  -- a brick that is not stored has one value, at any step
+  pub strip_one : (κ ≡ Missing) ⊎ ((v : ℕ) × (κ ≡ Constant v)) → ys ≡ floats_of r f κ m n → ys ≡ strip_of r f κ m s n
+  strip_one one made =
+      made
+      ∙ ⊎_elim
+      (λ e. ap (λ (y : Kind). floats_of r f y m n) e ∙ cat-same n _ _ (λ t _. sym (cat-one _)) ∙ sym (ap (λ (y : Kind). strip_of r f y m s n) e))
+      (λ p. ap (λ (y : Kind). floats_of r f y m n) p.1 ∙ cat-same n _ _ (λ t _. sym (cat-one _)) ∙ sym (ap (λ (y : Kind). strip_of r f y m s n) p.1))
+      one
 
   module _ (range : Range) (er : range ≡ range_of r) where
-    pub strip_same : (v : ℕ) (x : Float) → κ ≡ Constant v → x ≡ decode_of r.description.datatype range.min range.max v → ys ≡ cat n (λ _. x ∷ []) → ys ≡ strip_of r f κ m s n
-    strip_same v x e ex made =
-        made
-        ∙ ap (λ (y : Float). cat n (λ _. y ∷ [])) (ex ∙ ap (λ (y : Range). decode_of r.description.datatype y.min y.max v) er)
-        ∙ cat-same n _ _ (λ t _. sym (cat-one _))
-        ∙ sym (ap (λ (y : Kind). strip_of r f y m s n) e)
-
     pub strip_read : (o w : ℕ) (bytes : List ℕ) → κ ≡ Stored o → w ≡ item_bytes r → ((t : ℕ) → t < n → o + m * w + t * (s * w) + w ≤ length f)
         → bytes ≡ cat n (λ t. peek f (o + m * w + t * (s * w)) w)
         → ys ≡ cat n (λ t. decode_of r.description.datatype range.min range.max (le (item_bytes r) bytes (t * item_bytes r)) ∷ [])
@@ -127,8 +130,8 @@ module _ {r : Record} {f : List ℕ} {g : Region} {q : Lattice} {κ : Kind} {m i
       let e : q.side2 ≡ side_of r.description 2 = ap (λ (x : Lattice). x.side2) h.ready.laid in
       (omega (arith, e, small-side _ s.2), h.in_j.some, omega (arith, h.in_j.brick, small-side _ s.1))
 
-  pub strip_ends : (o : ℕ) → κ ≡ Stored o → (t : ℕ) → t < nj → o + (m + t * q.side2 + 1) * item_bytes r ≤ length f
-  strip_ends o e t l = rw one at (rows-ends (row_of h l) o e)
+  pub strip_ends : (o : ℕ) → κ ≡ Stored o → (t : ℕ) → t < nj → o + (m + t * q.side2 + 1) * q.width ≤ length f
+  strip_ends o e t l = rw (ready-width r f g q h.ready) (rw one at (rows-ends (row_of h l) o e))
 
   pub strip_room : i * q.count1 + j + nj ≤ size_of g
   strip_room = rw ((counts r f g q h.ready).1, run) (omega (arith, rows-room (run_of g 0) (run_of g 1) 1 i j nj 1 h.in_i h.in_j.within))

@@ -53,7 +53,7 @@ fn missing_floats(out: &mut [f64], missing: MissingBrick)
 fn read_items(out: &mut [f64], v: &View, range: Range, corner: Corner)
     requires range { range ≡ range_of v.now.site.record.now }
     requires constant { (n : ℕ) → corner.kind ≡ Constant n → n < 256 ^ item_bytes v.now.site.record.now }
-    requires stored { (o : ℕ) → corner.kind ≡ Stored o → o + (corner.item + length out.old) * item_bytes v.now.site.record.now ≤ length v.now.file.now }
+    requires stored { (o : ℕ) → corner.kind ≡ Stored o → o + (corner.item + length out.old) * v.now.site.lattice.width ≤ length v.now.file.now }
     ensures { out.new ≡ floats_of v.now.site.record.now v.now.file.now corner.kind corner.item (length out.old) }
 {
     let q = v.site.lattice;
@@ -122,33 +122,29 @@ fn gather_items(out: &mut [u8], file: &[u8], from: usize, step: usize, n: usize,
     }
 }
 
-// As many samples as strip has room for, from the corner's item of its brick on, one of each column. Of a brick that is not stored it does what
-// read_items does; a stored one needs the step from column to column, which a row has not. They are gathered first,
-// because the loop that decodes is fast only on items that lie one after the other.
+// As many samples as strip has room for, from the corner's item of its brick on, one of each column. Those of a brick that is not stored are one
+// value, whatever the step from column to column. Those of a stored one are gathered first, because the loop that decodes is fast only on items that
+// lie one after the other.
 fn read_strip(strip: &mut [f64], v: &View, range: Range, corner: Corner)
     requires range { range ≡ range_of v.now.site.record.now }
     requires few { (v.now.site.lattice.side2 ≤ 64) × (0 < length strip.old) × (length strip.old ≤ 64) }
     requires constant { (n : ℕ) → corner.kind ≡ Constant n → n < 256 ^ item_bytes v.now.site.record.now }
-    requires stored { (o : ℕ) → corner.kind ≡ Stored o → (t : ℕ) → t < length strip.old → o + (corner.item + t * v.now.site.lattice.side2 + 1) * item_bytes v.now.site.record.now ≤ length v.now.file.now }
+    requires stored { (o : ℕ) → corner.kind ≡ Stored o → (t : ℕ) → t < length strip.old → o + (corner.item + t * v.now.site.lattice.side2 + 1) * v.now.site.lattice.width ≤ length v.now.file.now }
     ensures { strip.new ≡ strip_of v.now.site.record.now v.now.file.now corner.kind corner.item v.now.site.lattice.side2 (length strip.old) }
 {
-    let q = v.site.lattice;
-    let datatype = v.site.record.description.datatype;
     match corner.kind {
-        Kind::Missing => missing_floats(strip, q.missing),
-        Kind::Constant(number) => {
-            let value = decode_one(datatype, number, range.min, range.max);
-            fill_floats(strip, value);
-        }
         Kind::Stored(offset) => {
+            let q = v.site.lattice;
             let w = q.width as usize;
             let n = strip.len();
             let e = n * w;
             let a = offset as usize + corner.item * w;
             let mut block = [0u8; 256];
             gather_items(&mut block[..e], v.file, a, q.side2 * w, n, w);
+            let datatype = v.site.record.description.datatype;
             decode(strip, &block[..e], datatype, range.min, range.max);
         }
+        Kind::Missing | Kind::Constant(_) => read_items(strip, v, range, corner),
     }
 }
 
