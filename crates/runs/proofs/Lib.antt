@@ -7,3 +7,4 @@ pub mod Answers
 pub mod Boxes
 pub mod Rows
 pub mod Sites
+pub mod Readers

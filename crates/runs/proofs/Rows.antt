@@ -3,9 +3,11 @@ use Prim.Native.Nat.{ℕ, ◌+◌, ◌*◌, ◌/◌, ◌%◌, ◌≤◌, ◌<◌
 use mathlib.Core.Path.{◌≡◌, sym, ap, ◌∙◌}
 use mathlib.Core.List.{List}
 use native.Mathlib.Omega.{arith}
-use native.Mathlib.Nat.{div-add-mod', mul-one, mul-le-mul, mul-le-mul_right, le-mul_of_pos_right}
+use native.Mathlib.Nat.{le_trans, div-add-mod', mul-one, mul-le-mul, mul-le-mul_right, le-mul_of_pos_right}
 use lib.ListN.{length}
 use lib.Arith.{digits_mod}
+use Rattle.geometry.specs.Limits.{size_limit}
+use Rattle.endian.specs.Loops.{tri}
 use Rattle.record.specs.Record.{side_of, brick_bytes_of}
 use Rattle.record.specs.declared.Record.{Record}
 use Rattle.checks.proofs.Described.{described_sized}
@@ -15,7 +17,7 @@ use Rattle.cube.specs.declared.Region.{Region}
 use Rattle.cube.specs.Places.{item_bytes, kind_in, brick_of, item_no}
 use Rattle.cube.specs.Regions.{start_of, run_of, place, size_of}
 use Rattle.runs.specs.declared.Lattice.{Lattice}
-use Rattle.runs.specs.Runs.{lattice_of, Placed, Ready}
+use Rattle.runs.specs.Runs.{lattice_of, Placed, Ready, Holds}
 use Rattle.runs.specs.Boxes.{Along, Rows, Block}
 use Rattle.runs.proofs.Lattices.{Numbers, numbers, item_made}
 use Rattle.runs.proofs.Steps.{ready_fit, placed, counts}
@@ -51,6 +53,17 @@ module _ {r : Record} {f : List ℕ} {g : Region} {q : Lattice} (ready : Ready r
   -- the numbers of a sample
   pub numbers_at : (i j k : ℕ) → i < run_of g 0 → j < run_of g 1 → k < run_of g 2 → Numbers q i j k
   numbers_at i j k hi hj hk = numbers r g q i j k (placed r f g q ready i j k hi hj hk)
+
+  -- a sample's number among the region's, with its partial sums
+  pub number_small : {i j k : ℕ} → Holds g i j k → Spot q.count1 q.count2 i j k 1 (size_limit * size_limit * size_limit)
+  number_small {i} {j} {k} h =
+      let n = counts r f g q ready in
+      let s : size_of g ≤ size_limit * size_limit * size_limit = mul-le-mul (mul-le-mul ready.few.0 ready.few.1) ready.few.2 in
+      let one : k + 1 ≤ run_of g 2 = omega (arith, h.vertical) in
+      rw (n.1, n.2) (spot_of _ _ i j k 1 _ h.vertical (le_trans (simp mul-one at (run_room (run_of g 0) (run_of g 1) (run_of g 2) i j k 1 1 h.inline h.crossline one)) s))
+
+  pub number_is : (i j k : ℕ) → (i * q.count1 + j) * q.count2 + k ≡ tri (run_of g 1) (run_of g 2) i j k
+  number_is i j k = let n = counts r f g q ready in rw (n.1, n.2)
 
 -- a run of a direction has its first sample
 pub along_in : {r : Record} {g : Region} {d at n : ℕ} → Along r g d at n → at < run_of g d

@@ -1,8 +1,9 @@
 // A region among the bricks of its level, and in a file.
 ghost use Rattle.std.specs.Prelude.{◌≡◌, ◌+◌, ◌-◌, ◌%◌, ◌<◌, min, length};
+ghost use Rattle.endian.specs.Loops.{tri};
 ghost use Rattle.record.specs.Record.{side_of};
 ghost use Rattle.cube.specs.Places.{Inside, brick_of, item_no, kind_in};
-ghost use Rattle.cube.specs.Regions.{start_of, place};
+ghost use Rattle.cube.specs.Regions.{start_of, run_of, place};
 ghost use Rattle.runs.specs.Runs.{Laid, Ready, Holds};
 
 use crate::{Lattice, beyond, left, over};
@@ -65,7 +66,7 @@ impl<'a> Site<'a> {
     }
 
     // What the brick that holds a sample of the region is. Which sample is a matter of the call: its three
-    // numbers go on as the loops have them, and that it is one stands here and at the two below.
+    // numbers go on as the loops have them, and that it is one stands at each method that takes them.
     pub fn kind(&self, file: &[u8], i: usize, j: usize, k: usize) -> Kind
         requires inside { Inside self.now.record.now (place self.now.region.now i j k) }
         requires same_length { self.now.record.now.length ≡ length file.now }
@@ -97,6 +98,15 @@ impl<'a> Site<'a> {
 
 impl<'a, 'f> View<'a, 'f> {
     ghost use Rattle.runs.specs.Views.{InBrick, IsCorner};
+
+    // A sample's number among the region's, in the order of a buffer: vertical runs fastest.
+    pub fn sample_no(&self, i: usize, j: usize, k: usize) -> usize
+        requires { Holds self.now.site.region.now i j k }
+        ensures { result ≡ tri (run_of self.now.site.region.now 1) (run_of self.now.site.region.now 2) i j k }
+    {
+        let q = self.site.lattice;
+        (i * q.count1 + j) * q.count2 + k
+    }
 
     // What holds the first sample of a box of one brick.
     pub fn corner(&self, b: BrickBox) -> Corner

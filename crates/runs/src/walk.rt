@@ -1,18 +1,20 @@
 // A region read brick by brick: the bricks that it touches, each once for some of its inlines, and of each brick one box. The loops go on by
 // what `left` or `at_once` answers, a step that differs from turn to turn, which no range or `step_by` has: an iterator of such parts would have to
 // be written and proved, and would say no more.
-ghost use Rattle.std.specs.Prelude.{List, ◌≡◌, ℕ};
+ghost use Rattle.std.specs.Prelude.{List, ◌≡◌, ℕ, ◌*◌, length};
 ghost use Rattle.endian.specs.Loops.{cat};
 ghost use Rattle.record.specs.declared.Record.{Record};
+ghost use Rattle.table.specs.declared.Kind.{Kind};
 ghost use Rattle.cube.specs.declared.Region.{Region};
 ghost use Rattle.cube.specs.Regions.{run_of};
-ghost use Rattle.runs.specs.Views.{whole, Through, InBrick, Roomy, Filled};
+ghost use Rattle.runs.specs.Views.{whole, only, Through, InBrick, IsCorner, IsRowCorner, Roomy, Filled};
+ghost use Rattle.runs.specs.Readers.{ReaderLaws, IsRun};
 
-use crate::site::{BrickBox, Span, View};
+use crate::site::{BrickBox, Corner, Span, View};
 use crate::{at_once, left};
 
-// A way to read samples: what they become, and how a box of one brick is read. A reader reads a whole box: raw reads join columns into one run, and
-// float reads gather strips, so that below a box their loops have little in common.
+// A way to read samples: what they become, and how the items of a brick are read. How a box is read is the reader's choice: as its rows, by
+// `read_inlines` and `read_rows`, or at once where they lie in one piece.
 pub trait Reader {
     type Element;
 
@@ -22,8 +24,39 @@ pub trait Reader {
     // The elements of a sample of a region, by how far it is past the region's start.
     ghost sample: { Record → List ℕ → Region → ℕ → ℕ → ℕ → List Self.Element };
 
+    // The elements of n items of a brick of one kind, from an item on.
+    ghost items: { Record → List ℕ → Kind → ℕ → ℕ → List Self.Element };
+
+    // That they are those of the samples.
+    ghost laws: { ReaderLaws width sample items };
+
     // What the reader was made for.
     ghost fits: { Self → Record → Type 0 };
+
+    fn elements(&self, v: &View) -> usize
+        ensures { result ≡ width v.now.site.record.now };
+
+    // n items of a brick, from the corner's on.
+    fn read_items(&self, out: &mut [Self::Element], v: &View, corner: Corner, n: usize)
+        requires fits { fits self.now v.now.site.record.now }
+        requires room { length out.old ≡ n * width v.now.site.record.now }
+        requires run { IsRun v.now corner n }
+        ensures { out.new ≡ items v.now.site.record.now v.now.file.now corner.kind corner.item n };
+
+    // The rows of a box on one inline.
+    fn read_plane(
+        &self,
+        out: &mut [Self::Element],
+        v: &View,
+        corner: Corner,
+        i: usize,
+        j: Span,
+        k: Span,
+    )
+        requires fits { fits self.now v.now.site.record.now }
+        requires room { Roomy width v.now out.old }
+        requires rows { IsRowCorner v.now corner i j k }
+        ensures { Filled width sample v.now (only i) j k out.old out.new };
 
     fn read_box(&self, out: &mut [Self::Element], v: &View, b: BrickBox)
         requires fits { fits self.now v.now.site.record.now }
@@ -32,8 +65,60 @@ pub trait Reader {
         ensures { Filled width sample v.now b.i b.j b.k out.old out.new };
 }
 
-// The boxes of the bricks one above the other. What the reader was made for and the room of the buffer stand at each loop: the buffer is written
-// and the view is not, so they are lent apart, and only a call brings them together. The part that a loop goes through is its own.
+// The rows of a box on one inline, one by one. The buffer's room and what the reader was made for stand at each function: the buffer is written and
+// the view is not, so they are lent apart, and only a call brings them together.
+pub fn read_rows<R: Reader>(
+    out: &mut [R::Element],
+    v: &View,
+    reader: &R,
+    corner: Corner,
+    i: usize,
+    j: Span,
+    k: Span,
+)
+    requires fits { R.fits reader.now v.now.site.record.now }
+    requires room { Roomy R.width v.now out.old }
+    requires rows { IsRowCorner v.now corner i j k }
+    ensures { Filled R.width R.sample v.now (only i) j k out.old out.new }
+{
+    let w = reader.elements(v);
+    let side = v.site.lattice.side2;
+    for t in 0..j.n {
+        let a = v.sample_no(i, j.at + t, k.at) * w;
+        let e = a + k.n * w;
+        let row = Corner {
+            kind: corner.kind,
+            item: corner.item + t * side,
+        };
+        reader.read_items(&mut out[a..e], v, row, k.n);
+    }
+}
+
+// The inlines of a box, one by one.
+pub fn read_inlines<R: Reader>(
+    out: &mut [R::Element],
+    v: &View,
+    reader: &R,
+    corner: Corner,
+    b: BrickBox,
+)
+    requires fits { R.fits reader.now v.now.site.record.now }
+    requires room { Roomy R.width v.now out.old }
+    requires corner { IsCorner v.now corner b }
+    ensures { Filled R.width R.sample v.now b.i b.j b.k out.old out.new }
+{
+    let q = v.site.lattice;
+    let plane = q.side1 * q.side2;
+    for t in 0..b.i.n {
+        let on = Corner {
+            kind: corner.kind,
+            item: corner.item + t * plane,
+        };
+        reader.read_plane(out, v, on, b.i.at + t, b.j, b.k);
+    }
+}
+
+// The boxes of the bricks one above the other. The part that a loop goes through is its own, so that it lies in one brick stands at each.
 fn read_boxes<R: Reader>(out: &mut [R::Element], v: &View, reader: &R, i: Span, j: Span)
     requires fits { R.fits reader.now v.now.site.record.now }
     requires room { Roomy R.width v.now out.old }
