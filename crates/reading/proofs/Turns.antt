@@ -1,34 +1,33 @@
--- What a turn reads: items of one brick, which are a row's bytes, or those of whole columns, and come back as a box. Assumes nothing.
+-- Whole columns of a brick that are the region's whole columns: their items are one run, which comes back as a box. Assumes nothing.
 use Prim.Native.Nat.{ℕ, zero, suc, ◌+◌, ◌*◌, ◌-◌, ◌≤◌, ◌<◌}
-use mathlib.Core.Path.{◌≡◌, refl, sym, ap, ◌∙◌}
+use mathlib.Core.Path.{◌≡◌, sym, ap, ◌∙◌}
 use mathlib.Core.List.{List, ◌++◌}
-use mathlib.Core.Logic.{⊎_elim}
+use mathlib.Core.Logic.{◌⊎◌, ⊎_elim}
 use native.Mathlib.Omega.{arith}
-use native.Mathlib.Nat.{le_trans, add-mul, zero-mul, zero-add, suc-mul, mul-le-mul_right, le-mul_of_pos_right}
+use native.Mathlib.Nat.{one-mul, add-mul, zero-mul, zero-add, suc-mul}
 use lib.ListN.{length}
 use lib.Seq.{take-add, drop-drop}
 use borrow.Rule.Slice.PartMut.{put_mid}
 use Rattle.endian.specs.Loops.{cat, tri}
 use Rattle.endian.specs.Bytes.{lows}
+use Rattle.endian.proofs.Cats.{cat-add, cat-same}
 use Rattle.record.specs.declared.Record.{Record}
 use Rattle.table.specs.declared.Kind.{Kind}
 use Rattle.table.specs.declared.Kind.TheVariants.{Missing, Constant, Stored}
 use Rattle.cube.specs.declared.Region.{Region}
-use Rattle.cube.specs.Places.{item_bytes, kind_in, brick_of, byte_of, rows_of, raw_of}
-use Rattle.cube.specs.Regions.{run_of, place, size_of}
-use Rattle.endian.proofs.Cats.{cat-add, cat-same}
-use Rattle.cube.proofs.Places.{item-fits}
-use Rattle.cube.proofs.Rows.{row_width}
-use Rattle.cube.proofs.Runs.{run_missing, run_constant, run_read}
+use Rattle.cube.specs.Places.{item_bytes}
+use Rattle.cube.specs.Regions.{run_of, size_of}
 use Rattle.runs.specs.declared.Lattice.{Lattice}
+use Rattle.runs.specs.declared.site.View.{View}
 use Rattle.runs.specs.Runs.{Ready}
-use Rattle.runs.specs.Boxes.{Rows, Block}
-use Rattle.runs.proofs.Boxes.{boxed_more0, boxed_more1, boxed_run, boxed_rows}
-use Rattle.runs.proofs.Steps.{ready_fit, ready-width, ready-missing, counts, width_of}
-use Rattle.reading.specs.Items.{items_of, RawBox}
-use Rattle.runs.proofs.Rows.{Spot, along_in, rows-ends, rows_spot, inline_at, row_of, all_run, top, columns_ends, columns_spot}
-
--- ---- the items of one brick
+use Rattle.runs.specs.Boxes.{Boxed, Rows}
+use Rattle.runs.specs.Readers.{IsRun}
+use Rattle.runs.proofs.Boxes.{rows-room, boxed_rows}
+use Rattle.runs.proofs.Readers.{row_stored, row_run, row_end, row_box}
+use Rattle.runs.proofs.Rows.{row_of, all_run, top, columns_ends}
+use Rattle.runs.proofs.Steps.{ready-width, ready-missing}
+use Rattle.reading.specs.Items.{items_of, raw_items, raw_at}
+use Rattle.reading.specs.Laws.{raw_laws}
 
 -- items, and those after them
 items-add : (f : List ℕ) (w v₀ : ℕ) (κ : Kind) (m a b : ℕ) → items_of f w v₀ κ m (a + b) ≡ items_of f w v₀ κ m a ++ items_of f w v₀ κ (m + a) b
@@ -47,96 +46,58 @@ items-join f w v₀ (Stored o) m c zero = rw (zero-mul c, zero-mul w)
 items-join f w v₀ κ m c (suc n) =
     ap (λ (l : List ℕ). l ++ items_of f w v₀ κ (m + n * c) c) (items-join f w v₀ κ m c n) ∙ sym (items-add f w v₀ κ m (n * c) c) ∙ ap (items_of f w v₀ κ m) (sym (suc-mul n c))
 
--- the first row's items are its samples' bytes
-row_bytes : {r : Record} {f : List ℕ} {g : Region} {q : Lattice} {κ : Kind} {m i j k nj nk : ℕ} → Rows r f g q κ m i j k nj nk
-    → items_of f (item_bytes r) q.missing.value κ m nk ≡ cat nk (λ t. raw_of r (rows_of r f (place g i j (k + t))))
-unfolding byte_of
-row_bytes {r} {f} {g} {q} {κ} {m} {i} {j} {k} {nj} {nk} h = go κ h.kind
-  where
-    go : (x : Kind) → x ≡ kind_in r f (brick_of r (place g i j k)) → items_of f (item_bytes r) q.missing.value x m nk ≡ cat nk (λ t. raw_of r (rows_of r f (place g i j (k + t))))
-    go Missing e = rw (ready-missing r f g q h.ready) (sym (run_missing r f g i j k nk h.in_k.brick (sym e)))
-    go (Constant v) e = sym (run_constant r f g i j k nk h.in_k.brick v (sym e))
-    go (Stored o) e = rw h.item (sym (run_read r f g i j k nk h.in_k.brick o (sym e)))
+-- the items of a brick of kind κ', in the words of the lattice, are those of the record's brick
+pub items_made : {r : Record} {f : List ℕ} {g : Region} {q : Lattice} {κ κ' : Kind} {w : ℕ} {ys : List ℕ} (m n : ℕ) → Ready r f g q → w ≡ q.width → κ ≡ κ'
+    → ys ≡ items_of f w q.missing.value κ' m n → ys ≡ raw_items r f κ m n
+items_made {r} {f} {g} {q} m n ready ew e y = y ∙ rw (ew, ready-width r f g q ready, ready-missing r f g q ready, e)
 
--- ---- items of w bytes
+-- whole columns; n is the number of their first sample among the region's, w the bytes of a sample
+module _ {r : Record} {f : List ℕ} {g : Region} {q : Lattice} {κ : Kind} {m i j k nj nk n w : ℕ} (h : Rows r f g q κ m i j k nj nk) (whole : nk ≡ q.side2) (all : nk ≡ q.count2)
+    (en : n ≡ tri (run_of g 1) (run_of g 2) i j k) (ew : w ≡ item_bytes r) where
+  first : n ≡ tri (run_of g 1) (run_of g 2) i j 0
+  first = en ∙ ap (λ (x : ℕ). tri (run_of g 1) (run_of g 2) i j x) (top h whole all)
 
--- c items, in a buffer of `room` bytes
-pub record Bytes (m n i j k c w room : ℕ) : Type 0 where
-  pub at : Spot m n i j k c room
-  pub end : tri m n i j k * w + c * w ≤ room
+  columns_end : {room : ℕ} → room ≡ size_of g * item_bytes r → n * w + nj * nk * w ≤ room
+  columns_end e = rw (e, first, ew, all_run h whole all) (rows-room (run_of g 0) (run_of g 1) (run_of g 2) i j nj (item_bytes r) h.in_i h.in_j.within)
 
-bytes : {m n i j k c size : ℕ} (w room : ℕ) → Spot m n i j k c size → 0 < w → room ≡ size * w → Bytes m n i j k c w room
-bytes {m} {n} {i} {j} {k} {c} {size} w room s p e =
-    let up : size ≤ size * w = le-mul_of_pos_right size p in
-    record {
-      at = record { plane = omega arith; line = omega arith; run = omega arith; end = omega arith };
-      end = omega (arith, mul-le-mul_right w s.end, add-mul (tri m n i j k) c w);
-    }
+  column_bytes : (x : ℕ) → x < nj → raw_items r f κ (m + x * nk) nk ≡ cat (run_of g 2) (λ t. raw_at r f g i (j + x) t)
+  column_bytes x l =
+      ap (λ (z : ℕ). raw_items r f κ (m + x * z) nk) whole ∙ raw_laws.row r f g q κ _ i (j + x) k 1 nk (row_of h l)
+      ∙ ap (λ (z : ℕ). cat z (λ t. raw_at r f g i (j + x) (k + t))) (all_run h whole all)
+      ∙ cat-same (run_of g 2) _ _ (λ t _. ap (raw_at r f g i (j + x)) (ap (λ (z : ℕ). z + t) (top h whole all) ∙ zero-add t))
 
-module _ {r : Record} {f : List ℕ} {g : Region} {q : Lattice} (ready : Ready r f g q) where
-  some_bytes : 0 < item_bytes r
-  some_bytes = ⊎_elim (λ e. omega arith) (⊎_elim (λ e. omega arith) (λ e. omega arith)) (width_of r f g q ready)
+  columns_box : {d ys : List ℕ} → length d ≡ size_of g * item_bytes r → ys ≡ raw_items r f κ m (nj * nk)
+      → Boxed (item_bytes r) (run_of g 0) (run_of g 1) (run_of g 2) (raw_at r f g) i 1 j nj k nk d (put_mid (n * w) (n * w + nj * nk * w - n * w) d ys)
+  columns_box {d} {ys} size y =
+      rw (top h whole all, all_run h whole all)
+      (boxed_rows i j nj (n * w) (n * w + nj * run_of g 2 * w) d ys (raw_laws.wide r f g q h.ready) size h.in_i h.in_j.within (rw (first, ew)) (rw ew)
+      (y ∙ sym (items-join f (item_bytes r) _ κ m nk nj) ∙ cat-same nj _ _ column_bytes))
 
-  -- the bytes of each sample
-  sample-bytes : (x y z : ℕ) → x < run_of g 0 → y < run_of g 1 → z < run_of g 2 → length (raw_of r (rows_of r f (place g x y z))) ≡ item_bytes r
-  sample-bytes x y z hx hy hz = row_width r f (place g x y z) (λ o e. le_trans (item-fits r (ready_fit r f g q ready) o (place g x y z)) (ready.ends x y z hx hy hz o e).high)
+-- an inline of a box that is one run
+module _ (v : View) {κ : Kind} {m i j k nj nk : ℕ} (h : Rows v.site.record.now v.file.now v.site.region.now v.site.lattice κ m i j k nj nk)
+    (one : (nj ≡ 1) ⊎ ((nk ≡ v.site.lattice.side2) × (nk ≡ v.site.lattice.count2))) where
+  abbrev r : Record
+  r = v.site.record.now
 
--- what `read_items` asks of the first row
-pub row_stored : {r : Record} {f : List ℕ} {g : Region} {q : Lattice} {κ : Kind} {m i j k nj nk : ℕ} → Rows r f g q κ m i j k nj nk
-    → (o : ℕ) → κ ≡ Stored o → o + (m + nk) * q.width ≤ length f
-row_stored {r} {f} {g} {q} h = rw (ready-width r f g q h.ready) (rows-ends h)
+  abbrev g : Region
+  g = v.site.region.now
 
--- the first row, and whole columns: where the bytes stand, and the box that they make; w is the lattice's width
-module _ {r : Record} {f : List ℕ} {g : Region} {q : Lattice} {κ : Kind} {m i j k nj nk w : ℕ} (h : Rows r f g q κ m i j k nj nk) (ew : w ≡ q.width) where
-  wide : q.width ≡ item_bytes r
-  wide = ready-width r f g q h.ready
+  once : nj ≡ 1 → nj * nk ≡ nk
+  once e = ap (λ (x : ℕ). x * nk) e ∙ one-mul nk
 
-  pub row_at : (room : ℕ) → room ≡ size_of g * item_bytes r → Bytes q.count1 q.count2 i j k nk w room
-  row_at room size = rw (ew, wide) (bytes (item_bytes r) room (rows_spot h) (some_bytes h.ready) size)
+  run_stored : (o : ℕ) → κ ≡ Stored o → o + (m + nj * nk) * v.site.lattice.width ≤ length v.file.now
+  run_stored = ⊎_elim (λ e. rw (once e) (row_stored h)) (λ p. rw (ready-width r v.file.now g v.site.lattice h.ready) (columns_ends h p.0 p.1)) one
 
-  pub row_box : (s e : ℕ) (d ys : List ℕ) → length d ≡ size_of g * item_bytes r → s ≡ tri q.count1 q.count2 i j k * w → e ≡ s + nk * w
-      → ys ≡ items_of f q.width q.missing.value κ m nk → RawBox r f g i 1 j 1 k nk d (put_mid s (e - s) d ys)
-  row_box s e d ys size es ee y =
-      let n = counts r f g q h.ready in
-      boxed_run i j k nk s e d ys (sample-bytes h.ready) size h.in_i (along_in h.in_j) h.in_k.within (es ∙ rw (n.1, n.2, ew, wide)) (ee ∙ rw (ew, wide)) (y ∙ rw wide (row_bytes h))
+  pub run_asks : IsRun v (record { kind = κ; item = m }) (nj * nk)
+  run_asks = record { constant = (row_run v h).constant; stored = run_stored }
 
-  module _ (whole : nk ≡ q.side2) (all : nk ≡ q.count2) where
-    pub columns_stored : (o : ℕ) → κ ≡ Stored o → o + (m + nj * nk) * q.width ≤ length f
-    columns_stored = rw wide (columns_ends h whole all)
+  module _ {n w : ℕ} (en : n ≡ tri (run_of g 1) (run_of g 2) i j k) (ew : w ≡ v.site.lattice.width) where
+    wide : w ≡ item_bytes r
+    wide = ew ∙ ready-width r v.file.now g v.site.lattice h.ready
 
-    pub columns_at : (room : ℕ) → room ≡ size_of g * item_bytes r → Bytes q.count1 nk i j 0 (nj * nk) w room
-    columns_at room size = rw (ew, wide) (bytes (item_bytes r) room (columns_spot h whole all) (some_bytes h.ready) size)
+    pub run_room : {room : ℕ} → room ≡ size_of g * item_bytes r → n * w + nj * nk * w ≤ room
+    run_room e = ⊎_elim (λ x. rw (once x) (row_end raw_laws h en wide e)) (λ p. columns_end h p.0 p.1 en wide e) one
 
-    column_bytes : (x : ℕ) → x < nj → items_of f (item_bytes r) q.missing.value κ (m + x * nk) nk ≡ cat (run_of g 2) (λ t. raw_of r (rows_of r f (place g i (j + x) t)))
-    column_bytes x l =
-        let row : ℕ → List ℕ = λ t. raw_of r (rows_of r f (place g i (j + x) t)) in
-        ap (λ (z : ℕ). items_of f (item_bytes r) q.missing.value κ (m + x * z) nk) whole ∙ row_bytes (row_of h l)
-        ∙ ap (λ (z : ℕ). cat z (λ t. row (k + t))) (all_run h whole all) ∙ cat-same (run_of g 2) _ _ (λ t _. ap row (ap (λ (z : ℕ). z + t) (top h whole all) ∙ zero-add t))
-
-    pub columns_box : (s e : ℕ) (d ys : List ℕ) → length d ≡ size_of g * item_bytes r → s ≡ (i * q.count1 + j) * nk * w → e ≡ s + nj * nk * w
-        → ys ≡ items_of f q.width q.missing.value κ m (nj * nk) → RawBox r f g i 1 j nj k nk d (put_mid s (e - s) d ys)
-    columns_box s e d ys size es ee y =
-        let n = all_run h whole all in
-        rw (top h whole all, n)
-        (boxed_rows i j nj s e d ys (sample-bytes h.ready) size h.in_i h.in_j.within (es ∙ rw ((counts r f g q h.ready).1, n, ew, wide) (omega arith)) (ee ∙ rw (n, ew, wide))
-        (y ∙ rw wide (sym (items-join f (item_bytes r) q.missing.value κ m nk nj) ∙ cat-same nj _ _ column_bytes)))
-
--- ---- a turn of the loops over rows and over inlines: w is the lattice's width, d the buffer
-
-module _ {r : Record} {f : List ℕ} {g : Region} {q : Lattice} {κ : Kind} {m i j k nj nk w : ℕ} (h : Rows r f g q κ m i j k nj nk) (ew : w ≡ q.width) where
-  pub turn_at : {t room : ℕ} → room ≡ size_of g * item_bytes r → t < nj → Bytes q.count1 q.count2 i (j + t) k nk w room
-  turn_at {t} {room} size l = row_at (row_of h l) ew room size
-
-  pub turn_box : {t : ℕ} {d d' ys : List ℕ} → length d ≡ size_of g * item_bytes r → RawBox r f g i 1 j t k nk d d' → t < nj
-      → ys ≡ items_of f q.width q.missing.value κ (m + t * q.side2) nk
-      → (let s : ℕ = ((i * q.count1 + (j + t)) * q.count2 + k) * w in RawBox r f g i 1 j (t + 1) k nk d (put_mid s (s + nk * w - s) d' ys))
-  turn_box size b l y = boxed_more1 b (row_box (row_of h l) ew _ _ _ _ (b.size ∙ size) refl refl y)
-
-module _ {r : Record} {f : List ℕ} {g : Region} {q : Lattice} {κ : Kind} {m i ni j nj k nk w : ℕ} (h : Block r f g q κ m i ni j nj k nk) (ew : w ≡ q.width) where
-  pub line_at : {t room : ℕ} → room ≡ size_of g * item_bytes r → t < ni → Bytes q.count1 q.count2 (i + t) j k nk w room
-  line_at {t} {room} size l = row_at (inline_at h l) ew room size
-
-  pub line_box : {t : ℕ} {d d' ys : List ℕ} → length d ≡ size_of g * item_bytes r → RawBox r f g i t j 1 k nk d d' → t < ni
-      → ys ≡ items_of f q.width q.missing.value κ (m + t * (q.side1 * q.side2)) nk
-      → (let s : ℕ = (((i + t) * q.count1 + j) * q.count2 + k) * w in RawBox r f g i (t + 1) j 1 k nk d (put_mid s (s + nk * w - s) d' ys))
-  line_box size b l y = boxed_more0 b (row_box (inline_at h l) ew _ _ _ _ (b.size ∙ size) refl refl y)
+    pub run_box : {d ys : List ℕ} → length d ≡ size_of g * item_bytes r → ys ≡ raw_items r v.file.now κ m (nj * nk)
+        → Boxed (item_bytes r) (run_of g 0) (run_of g 1) (run_of g 2) (raw_at r v.file.now g) i 1 j nj k nk d (put_mid (n * w) (n * w + nj * nk * w - n * w) d ys)
+    run_box size y = ⊎_elim (λ x. rw (once x, x) (row_box raw_laws h en wide size (rw (once x) at y))) (λ p. columns_box h p.0 p.1 en wide size y) one

@@ -1,2 +1,3 @@
 -- The definitions that the contracts of reading cite.
 pub mod Items
+pub mod Laws

@@ -12,15 +12,16 @@ ghost use Rattle.record.specs.Answers.{Taken};
 ghost use Rattle.cube.specs.Places.{item_bytes, rows_of};
 ghost use Rattle.cube.specs.Calls.{raw_read, raw, answer_of, buffers_after};
 ghost use Rattle.cube.specs.Regions.{size_of, raw_rows, raw_verdict, over};
-ghost use Rattle.runs.specs.Views.{only, IsCorner, IsRowCorner, Roomy, Filled};
-ghost use Rattle.reading.specs.Items.{items_of, raw_at};
+ghost use Rattle.runs.specs.Views.{IsCorner, Roomy, Filled};
+ghost use Rattle.reading.specs.Items.{OneRun, raw_items, raw_at};
+ghost use Rattle.reading.specs.Laws.{raw_laws};
 
 use cube::Region;
 use endian::copy;
 use record::{Record, Refusal};
 use regions::raw_verdict;
-use runs::site::{BrickBox, Corner, Site, Span, View};
-use runs::walk::{Reader, read_bricks};
+use runs::site::{BrickBox, Corner, Site, View};
+use runs::walk::{Items, Reader, read_bricks, read_inlines};
 use runs::{index, lattice_of};
 use table::Kind;
 
@@ -52,117 +53,72 @@ fn fill_items(out: &mut [u8], value: u32, n: usize, w: usize)
     }
 }
 
-// n items of a brick, from the corner's on.
-fn read_items(out: &mut [u8], v: &View, corner: Corner, n: usize)
-    requires room { length out.old ≡ n * v.now.site.lattice.width }
-    requires stored { (o : ℕ) → corner.kind ≡ Stored o → o + (corner.item + n) * v.now.site.lattice.width ≤ length v.now.file.now }
-    ensures { out.new ≡ items_of v.now.file.now v.now.site.lattice.width v.now.site.lattice.missing.value corner.kind corner.item n }
-{
-    let q = v.site.lattice;
-    let w = index(q.width);
-    match corner.kind {
-        Kind::Missing => fill_items(out, q.missing.value, n, w),
-        Kind::Constant(value) => fill_items(out, value, n, w),
-        Kind::Stored(offset) => {
-            let p = offset as usize + corner.item * w;
-            let e = p + n * w;
-            copy(out, &v.file[p..e]);
-        }
-    }
-}
-
-// The rows of a box on one inline. The buffer's room stands at each function, as in the walk: it is lent apart from the view.
-fn read_rows(out: &mut [u8], v: &View, corner: Corner, i: usize, j: Span, k: Span)
-    requires room { Roomy item_bytes v.now out.old }
-    requires rows { IsRowCorner v.now corner i j k }
-    ensures { Filled item_bytes raw_at v.now (only i) j k out.old out.new }
-{
-    let q = v.site.lattice;
-    let w = index(q.width);
-    for t in 0..j.n {
-        let a = ((i * q.count1 + (j.at + t)) * q.count2 + k.at) * w;
-        let e = a + k.n * w;
-        let row = Corner {
-            kind: corner.kind,
-            item: corner.item + t * q.side2,
-        };
-        read_items(&mut out[a..e], v, row, k.n);
-    }
-}
-
-// The same. Whole columns of a brick that are the region's whole columns stand one after the other in both, and are one run.
-fn read_plane(out: &mut [u8], v: &View, corner: Corner, i: usize, j: Span, k: Span)
-    requires room { Roomy item_bytes v.now out.old }
-    requires rows { IsRowCorner v.now corner i j k }
-    ensures { Filled item_bytes raw_at v.now (only i) j k out.old out.new }
-{
-    let q = v.site.lattice;
-    if k.n == q.side2 && k.n == q.count2 {
-        let w = index(q.width);
-        let n = j.n * k.n;
-        let a = (i * q.count1 + j.at) * k.n * w;
-        let e = a + n * w;
-        read_items(&mut out[a..e], v, corner, n);
-    } else {
-        read_rows(out, v, corner, i, j, k);
-    }
-}
-
-// The inlines of a box.
-fn read_planes(out: &mut [u8], v: &View, corner: Corner, b: BrickBox)
-    requires room { Roomy item_bytes v.now out.old }
-    requires corner { IsCorner v.now corner b }
-    ensures { Filled item_bytes raw_at v.now b.i b.j b.k out.old out.new }
-{
-    let q = v.site.lattice;
-    let plane = q.side1 * q.side2;
-    for t in 0..b.i.n {
-        let on = Corner {
-            kind: corner.kind,
-            item: corner.item + t * plane,
-        };
-        read_plane(out, v, on, b.i.at + t, b.j, b.k);
-    }
-}
-
-// The same where each inline has one row, as in a crossline section: a loop over rows for each would cost more than the row.
-fn read_lines(out: &mut [u8], v: &View, corner: Corner, b: BrickBox)
-    requires room { Roomy item_bytes v.now out.old }
-    requires corner { IsCorner v.now corner b × (b.j.n ≡ 1) }
-    ensures { Filled item_bytes raw_at v.now b.i b.j b.k out.old out.new }
-{
-    let q = v.site.lattice;
-    let w = index(q.width);
-    let plane = q.side1 * q.side2;
-    for t in 0..b.i.n {
-        let a = (((b.i.at + t) * q.count1 + b.j.at) * q.count2 + b.k.at) * w;
-        let e = a + b.k.n * w;
-        let line = Corner {
-            kind: corner.kind,
-            item: corner.item + t * plane,
-        };
-        read_items(&mut out[a..e], v, line, b.k.n);
-    }
-}
-
 // Samples as their items' bytes.
 struct Raw;
 
-impl Reader for Raw {
+impl Items for Raw {
     type Element = u8;
 
     ghost width = { item_bytes };
 
     ghost sample = { raw_at };
 
+    ghost items = { raw_items };
+
+    ghost laws = { raw_laws };
+
     ghost fits = { λ _ _. Unit {0} };
 
+    fn elements(&self, v: &View) -> usize {
+        index(v.site.lattice.width)
+    }
+
+    fn read_items(&self, out: &mut [u8], v: &View, corner: Corner, n: usize) {
+        let q = v.site.lattice;
+        let w = index(q.width);
+        match corner.kind {
+            Kind::Missing => fill_items(out, q.missing.value, n, w),
+            Kind::Constant(value) => fill_items(out, value, n, w),
+            Kind::Stored(offset) => {
+                let p = offset as usize + corner.item * w;
+                let e = p + n * w;
+                copy(out, &v.file[p..e]);
+            }
+        }
+    }
+}
+
+// The inlines of a box of which each is one run, in its brick and in the region. A loop over its rows would cost more than they do.
+fn read_runs(out: &mut [u8], v: &View, corner: Corner, b: BrickBox)
+    requires room { Roomy item_bytes v.now out.old }
+    requires corner { IsCorner v.now corner b }
+    requires run { OneRun v.now b }
+    ensures { Filled item_bytes raw_at v.now b.i b.j b.k out.old out.new }
+{
+    let q = v.site.lattice;
+    let w = index(q.width);
+    let plane = q.side1 * q.side2;
+    let n = b.j.n * b.k.n;
+    for t in 0..b.i.n {
+        let a = v.sample_no(b.i.at + t, b.j.at, b.k.at) * w;
+        let e = a + n * w;
+        let on = Corner {
+            kind: corner.kind,
+            item: corner.item + t * plane,
+        };
+        Raw.read_items(&mut out[a..e], v, on, n);
+    }
+}
+
+impl Reader for Raw {
+    // One row is one run, as in a crossline section, and so are whole columns of a brick that are the region's whole columns.
     fn read_box(&self, out: &mut [u8], v: &View, b: BrickBox) {
+        let q = v.site.lattice;
         let corner = v.corner(b);
-        if b.j.n == 1 {
-            read_lines(out, v, corner, b);
+        if b.j.n == 1 || (b.k.n == q.side2 && b.k.n == q.count2) {
+            read_runs(out, v, corner, b);
         } else {
-            read_planes(out, v, corner, b);
+            read_inlines(out, v, self, corner, b);
         }
     }
 }

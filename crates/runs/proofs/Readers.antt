@@ -3,7 +3,10 @@ use Prim.Native.Nat.{ℕ, ◌+◌, ◌*◌, ◌-◌, ◌≤◌, ◌<◌}
 use mathlib.Core.Path.{◌≡◌, ◌∙◌, sym}
 use mathlib.Core.List.{List}
 use native.Mathlib.Omega.{arith}
-use lib.ListN.{length}
+use native.Mathlib.Nat.{add-mul, add-sub_cancel_left}
+use Rattle.endian.proofs.Puts.{length-peek}
+use Rattle.runs.specs.declared.site.Corner.{Corner}
+use lib.ListN.{length, take, drop}
 use borrow.Rule.Slice.PartMut.{put_mid}
 use Rattle.endian.specs.Loops.{tri}
 use Rattle.record.specs.declared.Record.{Record}
@@ -15,7 +18,7 @@ use Rattle.cube.specs.Regions.{run_of, size_of}
 use Rattle.runs.specs.declared.Lattice.{Lattice}
 use Rattle.runs.specs.declared.site.View.{View}
 use Rattle.runs.specs.Boxes.{Boxed, Rows}
-use Rattle.runs.specs.Readers.{ReaderLaws, IsRun}
+use Rattle.runs.specs.Readers.{ItemsLaws, IsRun}
 use Rattle.runs.specs.Runs.{Holds}
 use Rattle.runs.proofs.Boxes.{run_room, boxed_more1, boxed_run}
 use Rattle.runs.proofs.Products.{le-mul-left}
@@ -36,8 +39,15 @@ module _ (v : View) {κ : Kind} {m i j k nj nk : ℕ} (h : Rows v.site.record.no
   pub row_run : IsRun v (record { kind = κ; item = m }) nk
   row_run = record { constant = λ x e. names_narrow v.site.record.now v.file.now _ x (sym h.kind ∙ e); stored = row_stored h }
 
+-- a run of a stored brick of items of w bytes lies in the file, and a part of the file has its length
+pub run_end : {v : View} {c : Corner} {n o w : ℕ} → IsRun v c n → c.kind ≡ Stored o → w ≡ v.site.lattice.width → o + c.item * w + n * w ≤ length v.file.now
+run_end {v} {c} {n} {o} {w} run e ew = rw ew (omega (arith, run.stored o e, add-mul c.item n v.site.lattice.width))
+
+pub part_long : (f : List ℕ) (a n : ℕ) → a + n ≤ length f → length (take (a + n - a) (drop a f)) ≡ n
+part_long f a n h = rw (add-sub_cancel_left a n) (length-peek f a n h)
+
 -- n is the number of a row's first sample among the region's, w the elements of a sample
-module _ {A : Type 0} {W : Record → ℕ} {S : Record → List ℕ → Region → ℕ → ℕ → ℕ → List A} {I : Record → List ℕ → Kind → ℕ → ℕ → List A} (laws : ReaderLaws W S I) where
+module _ {A : Type 0} {W : Record → ℕ} {S : Record → List ℕ → Region → ℕ → ℕ → ℕ → List A} {I : Record → List ℕ → Kind → ℕ → ℕ → List A} (laws : ItemsLaws W S I) where
   module _ {r : Record} {f : List ℕ} {g : Region} {q : Lattice} {κ : Kind} {m i j k nj nk n w : ℕ} (h : Rows r f g q κ m i j k nj nk) (en : n ≡ tri (run_of g 1) (run_of g 2) i j k) (ew : w ≡ W r) where
     pub row_end : {room : ℕ} → room ≡ size_of g * W r → n * w + nk * w ≤ room
     row_end e = rw (e, en, ew) (run_room (run_of g 0) (run_of g 1) (run_of g 2) i j k nk (W r) h.in_i (along_in h.in_j) h.in_k.within)

@@ -1,4 +1,4 @@
--- What a way to read samples owes. w is the number of elements that an item takes in the buffer, s what a record, a file and a region have at a
+-- What a way to read items owes. w is the number of elements that an item takes in the buffer, s what a record, a file and a region have at a
 -- sample, and items what n items of a brick of one kind are read as, from an item on.
 use Rattle.std.specs.Prelude.{List, ◌≡◌, ℕ, ◌+◌, ◌*◌, ◌^◌, ◌≤◌, ◌<◌, length}
 use Rattle.endian.specs.Loops.{cat}
@@ -14,7 +14,7 @@ use Rattle.runs.specs.declared.site.View.{View}
 use Rattle.runs.specs.Boxes.{Rows}
 use Rattle.runs.specs.Runs.{Ready}
 
-pub record ReaderLaws {A : Type 0} (w : Record → ℕ) (s : Record → List ℕ → Region → ℕ → ℕ → ℕ → List A) (items : Record → List ℕ → Kind → ℕ → ℕ → List A) : Type 0 where
+pub record ItemsLaws {A : Type 0} (w : Record → ℕ) (s : Record → List ℕ → Region → ℕ → ℕ → ℕ → List A) (items : Record → List ℕ → Kind → ℕ → ℕ → List A) : Type 0 where
   -- a sample takes some elements, each sample as many
   pub some : (r : Record) (f : List ℕ) (g : Region) (q : Lattice) → Ready r f g q → 0 < w r
   pub wide : (r : Record) (f : List ℕ) (g : Region) (q : Lattice) → Ready r f g q → (x y z : ℕ) → x < run_of g 0 → y < run_of g 1 → z < run_of g 2 → length (s r f g x y z) ≡ w r

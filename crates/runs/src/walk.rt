@@ -8,14 +8,13 @@ ghost use Rattle.table.specs.declared.Kind.{Kind};
 ghost use Rattle.cube.specs.declared.Region.{Region};
 ghost use Rattle.cube.specs.Regions.{run_of};
 ghost use Rattle.runs.specs.Views.{whole, only, Through, InBrick, IsCorner, IsRowCorner, Roomy, Filled};
-ghost use Rattle.runs.specs.Readers.{ReaderLaws, IsRun};
+ghost use Rattle.runs.specs.Readers.{ItemsLaws, IsRun};
 
 use crate::site::{BrickBox, Corner, Span, View};
 use crate::{at_once, left};
 
-// A way to read samples: what they become, and how the items of a brick are read. How a box is read is the reader's choice: as its rows, by
-// `read_inlines` and `read_rows`, or at once where they lie in one piece.
-pub trait Reader {
+// What samples are read as: what they become, and how the items of a brick are read.
+pub trait Items {
     type Element;
 
     // How many elements an item takes in the buffer.
@@ -28,7 +27,7 @@ pub trait Reader {
     ghost items: { Record → List ℕ → Kind → ℕ → ℕ → List Self.Element };
 
     // That they are those of the samples.
-    ghost laws: { ReaderLaws width sample items };
+    ghost laws: { ItemsLaws width sample items };
 
     // What the reader was made for.
     ghost fits: { Self → Record → Type 0 };
@@ -42,32 +41,20 @@ pub trait Reader {
         requires room { length out.old ≡ n * width v.now.site.record.now }
         requires run { IsRun v.now corner n }
         ensures { out.new ≡ items v.now.site.record.now v.now.file.now corner.kind corner.item n };
-
-    // The rows of a box on one inline.
-    fn read_plane(
-        &self,
-        out: &mut [Self::Element],
-        v: &View,
-        corner: Corner,
-        i: usize,
-        j: Span,
-        k: Span,
-    )
-        requires fits { fits self.now v.now.site.record.now }
-        requires room { Roomy width v.now out.old }
-        requires rows { IsRowCorner v.now corner i j k }
-        ensures { Filled width sample v.now (only i) j k out.old out.new };
-
-    fn read_box(&self, out: &mut [Self::Element], v: &View, b: BrickBox)
-        requires fits { fits self.now v.now.site.record.now }
-        requires room { Roomy width v.now out.old }
-        requires in_brick { InBrick v.now b }
-        ensures { Filled width sample v.now b.i b.j b.k out.old out.new };
 }
 
-// The rows of a box on one inline, one by one. The buffer's room and what the reader was made for stand at each function: the buffer is written and
+// A way to read them: how a box of one brick is read, inline by inline as `read_inlines` does, or at once where the reader knows better.
+pub trait Reader: Items {
+    fn read_box(&self, out: &mut [Self::Element], v: &View, b: BrickBox)
+        requires fits { Self.fits self.now v.now.site.record.now }
+        requires room { Roomy Self.width v.now out.old }
+        requires in_brick { InBrick v.now b }
+        ensures { Filled Self.width Self.sample v.now b.i b.j b.k out.old out.new };
+}
+
+// The rows of a box on one inline. The buffer's room and what the reader was made for stand at each function: the buffer is written and
 // the view is not, so they are lent apart, and only a call brings them together.
-pub fn read_rows<R: Reader>(
+fn read_rows<R: Items>(
     out: &mut [R::Element],
     v: &View,
     reader: &R,
@@ -94,8 +81,8 @@ pub fn read_rows<R: Reader>(
     }
 }
 
-// The inlines of a box, one by one.
-pub fn read_inlines<R: Reader>(
+// The inlines of a box, each row by row.
+pub fn read_inlines<R: Items>(
     out: &mut [R::Element],
     v: &View,
     reader: &R,
@@ -114,7 +101,7 @@ pub fn read_inlines<R: Reader>(
             kind: corner.kind,
             item: corner.item + t * plane,
         };
-        reader.read_plane(out, v, on, b.i.at + t, b.j, b.k);
+        read_rows(out, v, reader, on, b.i.at + t, b.j, b.k);
     }
 }
 

@@ -1,15 +1,15 @@
 -- Strips: samples of one brick that lie apart in it by a column each, and one after the other in the region. Assumes nothing.
-use Prim.Native.Nat.{ℕ, ◌+◌, ◌-◌, ◌*◌, ◌≤◌, ◌<◌}
+use Prim.Native.Nat.{ℕ, ◌+◌, ◌-◌, ◌*◌, ◌^◌, ◌≤◌, ◌<◌}
 use mathlib.Core.Bool.{true}
 use mathlib.Core.Path.{◌≡◌, refl, sym, ap, ◌∙◌}
 use mathlib.Core.List.{List, [], ◌∷◌}
 use mathlib.Core.Logic.{◌⊎◌, ⊎_elim}
 use native.Mathlib.Omega.{arith}
-use native.Mathlib.Nat.{add-mul, add-zero, mul-one, one-mul, zero-add, mul_assoc, mul-le-mul, pow-le-pow_right}
+use native.Mathlib.Nat.{add-mul, add-zero, one-mul, zero-add, mul_assoc, mul-le-mul, pow-le-pow_right}
 use lib.Ieee.{Float}
 use lib.ListN.{length}
 use borrow.Rule.Slice.PartMut.{put_mid}
-use Rattle.endian.specs.Loops.{cat}
+use Rattle.endian.specs.Loops.{cat, tri}
 use Rattle.endian.specs.Bytes.{peek, le}
 use Rattle.endian.proofs.Cats.{cat-same, length-cat, cat_part}
 use Rattle.endian.proofs.Puts.{length-peek}
@@ -23,17 +23,20 @@ use Rattle.table.specs.Entries.{Width}
 use Rattle.table.specs.declared.Kind.{Kind}
 use Rattle.table.specs.declared.Kind.TheVariants.{Missing, Constant, Stored}
 use Rattle.cube.specs.declared.Region.{Region}
-use Rattle.cube.specs.Places.{item_bytes, rows_of, float_of}
-use Rattle.cube.specs.Regions.{run_of, place, size_of}
+use Rattle.cube.specs.Places.{item_bytes}
+use Rattle.cube.specs.Regions.{run_of, size_of}
 use Rattle.runs.specs.declared.Lattice.{Lattice}
 use Rattle.runs.specs.Runs.{lattice_of, Ready}
 use Rattle.runs.proofs.Steps.{ready_fit, ready-width, lattice_width, counts}
-use Rattle.runs.proofs.Boxes.{rows-room, boxed_more0, boxed_rows}
-use Rattle.runs.specs.Boxes.{Along, Rows, Block}
-use Rattle.runs.proofs.Rows.{rows-ends, row_of, inline_at}
+use Rattle.runs.proofs.Boxes.{rows-room, boxed_rows}
+use Rattle.runs.specs.declared.site.Corner.{Corner}
+use Rattle.runs.specs.declared.site.View.{View}
+use Rattle.runs.specs.Readers.{IsRun}
+use Rattle.runs.specs.Boxes.{Boxed, Rows}
+use Rattle.runs.proofs.Rows.{rows-ends, row_of}
 use Rattle.sampling.specs.declared.Range.{Range}
-use Rattle.sampling.specs.Samples.{range_of, floats_of, strip_of, FloatBox}
-use Rattle.sampling.proofs.Pieces.{row_floats}
+use Rattle.sampling.specs.Samples.{range_of, float_at, floats_of, strip_of}
+use Rattle.sampling.specs.Laws.{float_laws}
 
 -- ---- numbers
 
@@ -46,8 +49,8 @@ strip_at : (o m s t b : ℕ) → o + m * b + t * (s * b) ≡ o + (m + t * s) * b
 strip_at o m s t b = omega (arith, add-mul m (t * s) b, mul_assoc t s b)
 
 -- the bytes of at most 64 items
-pub strip_block : {r : Record} {f : List ℕ} {g : Region} {q : Lattice} {n : ℕ} → Ready r f g q → n ≤ 64 → n * q.width ≤ 256
-strip_block {q = q} {n = n} ready few = mul-le-mul few (few_bytes q.width (lattice_width _ _ _ _ ready))
+pub strip_block : {r : Record} {f : List ℕ} {g : Region} {q : Lattice} {n w : ℕ} → Ready r f g q → w ≡ q.width → n ≤ 64 → n * w ≤ 256
+strip_block {q = q} {w = w} ready e few = let four : w ≤ 4 = rw e (few_bytes q.width (lattice_width _ _ _ _ ready)) in mul-le-mul few four
 
 -- what gathering n samples of w bytes asks, each s items after the one before
 module _ (f : List ℕ) (o m n s w : ℕ) (ends : (t : ℕ) → t < n → o + (m + t * s + 1) * w ≤ length f) where
@@ -57,6 +60,13 @@ module _ (f : List ℕ) (o m n s w : ℕ) (ends : (t : ℕ) → t < n → o + (m
   -- and what it puts together
   pub strip_long : {bytes : List ℕ} → bytes ≡ cat n (λ t. peek f (o + m * w + t * (s * w)) w) → length bytes ≡ n * w
   strip_long e = ap length e ∙ length-cat _ _ _ (λ t l. length-peek _ _ _ (strip_end t l))
+
+-- a brick that is not stored: what `read_items` asks of it
+pub one_run : (v : View) (c : Corner) (n : ℕ) → (c.kind ≡ Missing) ⊎ ((x : ℕ) × (c.kind ≡ Constant x)) → ((x : ℕ) → c.kind ≡ Constant x → x < 256 ^ item_bytes v.site.record.now) → IsRun v c n
+one_run v c n one constant = record {
+  constant = constant;
+  stored = λ o e. ⊎_elim (λ x. let z : ◌≡◌ {A = ℕ} 0 1 = cc in omega arith) (λ p. let d = p.1 in let z : ◌≡◌ {A = ℕ} 0 1 = cc in omega arith) one;
+}
 
 -- ---- the samples of a brick of this kind
 
@@ -102,26 +112,16 @@ module _ (r : Record) (f : List ℕ) (κ : Kind) (m s n : ℕ) (ys : List Float)
 small-side : (n : ℕ) → side_ok n ≡ true → n ≤ 64
 small-side n e = let p = side-exponent n e in rw p.power (pow-le-pow_right (omega arith) p.greatest)
 
--- a region that is one sample high
-module _ {r : Record} {f : List ℕ} {g : Region} {q : Lattice} {k nk : ℕ} (ready : Ready r f g q) (a : Along r g 2 k nk) (flat : q.count2 ≡ 1) where
-  run_one : run_of g 2 ≡ 1
-  run_one = sym (counts r f g q ready).2 ∙ flat
-
-  one_of : nk ≡ 1
-  one_of = omega (arith, a.some, a.within, run_one)
-
-  top_of : k ≡ 0
-  top_of = omega (arith, a.some, a.within, run_one)
-
+-- in a region that is one sample high
 module _ {r : Record} {f : List ℕ} {g : Region} {q : Lattice} {κ : Kind} {m i j k nj nk : ℕ} (h : Rows r f g q κ m i j k nj nk) (flat : q.count2 ≡ 1) where
   run : run_of g 2 ≡ 1
-  run = run_one h.ready h.in_k flat
+  run = sym (counts r f g q h.ready).2 ∙ flat
 
   one : nk ≡ 1
-  one = one_of h.ready h.in_k flat
+  one = omega (arith, h.in_k.some, h.in_k.within, run)
 
   top : k ≡ 0
-  top = top_of h.ready h.in_k flat
+  top = omega (arith, h.in_k.some, h.in_k.within, run)
 
   pub strip_few : (q.side2 ≤ 64) × (0 < nj) × (nj ≤ 64)
   unfolding lattice_of
@@ -133,35 +133,27 @@ module _ {r : Record} {f : List ℕ} {g : Region} {q : Lattice} {κ : Kind} {m i
   pub strip_ends : (o : ℕ) → κ ≡ Stored o → (t : ℕ) → t < nj → o + (m + t * q.side2 + 1) * q.width ≤ length f
   strip_ends o e t l = rw (ready-width r f g q h.ready) (rw one at (rows-ends (row_of h l) o e))
 
-  pub strip_room : i * q.count1 + j + nj ≤ size_of g
-  strip_room = rw ((counts r f g q h.ready).1, run) (omega (arith, rows-room (run_of g 0) (run_of g 1) 1 i j nj 1 h.in_i h.in_j.within))
-
-  column_float : (t : ℕ) → t < nj → floats_of r f κ (m + t * q.side2) 1 ≡ cat (run_of g 2) (λ z. float_of r (rows_of r f (place g i (j + t) z)) ∷ [])
+  column_float : (t : ℕ) → t < nj → floats_of r f κ (m + t * q.side2) 1 ≡ cat (run_of g 2) (λ z. float_at r f g i (j + t) z)
   column_float t l =
-      let row = row_of h l in
-      let at : ℕ → List Float = λ z. float_of r (rows_of r f (place g i (j + t) z)) ∷ [] in
-      ap (λ (x : ℕ). floats_of r f κ x 1) row.item
-      ∙ row_floats r f g i (j + t) k 1 (rw one at row.in_k) κ row.kind
-      ∙ ap (λ (z : ℕ). cat z (λ x. at (k + x))) (sym run)
-      ∙ cat-same (run_of g 2) _ _ (λ x _. ap at (ap (λ (z : ℕ). z + x) top ∙ zero-add x))
+      ap (λ (x : ℕ). floats_of r f κ (m + t * q.side2) x) (sym one)
+      ∙ float_laws.row r f g q κ _ i (j + t) k 1 nk (row_of h l)
+      ∙ ap (λ (z : ℕ). cat z (λ x. float_at r f g i (j + t) (k + x))) (one ∙ sym run)
+      ∙ cat-same (run_of g 2) _ _ (λ x _. ap (float_at r f g i (j + t)) (ap (λ (z : ℕ). z + x) top ∙ zero-add x))
 
-  pub strip_box : (s e c : ℕ) (d ys : List Float) → length d ≡ size_of g → s ≡ i * q.count1 + j → e ≡ s + nj → c ≡ nj → ys ≡ strip_of r f κ m q.side2 c
-      → FloatBox r f g i 1 j nj k nk d (put_mid s (e - s) d ys)
-  strip_box s e c d ys size es ee ec y =
-      let n : nk ≡ run_of g 2 = one ∙ sym run in
-      rw (top, n)
-      (boxed_rows i j nj s e d ys (λ x y z hx hy hz. refl) (size ∙ sym (mul-one (size_of g))) h.in_i h.in_j.within
-      (es ∙ rw ((counts r f g q h.ready).1, run) (omega arith))
-      (ee ∙ rw run (omega arith))
-      (y ∙ rw ec (cat-same nj _ _ column_float)))
+  -- n is the number of its first sample among the region's
+  module _ {n : ℕ} (en : n ≡ tri (run_of g 1) (run_of g 2) i j k) where
+    place_is : n ≡ i * run_of g 1 + j
+    place_is = en ∙ rw (top, run) (omega arith)
 
--- ---- a turn of the loop over the strips of a box, in a region that is one sample high
+    pub strip_room : {room : ℕ} → room ≡ size_of g * 1 → n + nj ≤ room
+    strip_room e = rw (e, place_is, run) (omega (arith, rows-room (run_of g 0) (run_of g 1) 1 i j nj 1 h.in_i h.in_j.within))
 
-module _ {r : Record} {f : List ℕ} {g : Region} {q : Lattice} {κ : Kind} {m i ni j nj k nk : ℕ} (h : Block r f g q κ m i ni j nj k nk) (flat : q.count2 ≡ 1) where
-  pub turn_room : {t room : ℕ} → room ≡ size_of g * 1 → t < ni → (i + t) * q.count1 + j + nj ≤ room
-  turn_room {t} {room} e l = let s : room ≡ size_of g = e ∙ mul-one (size_of g) in rw s (strip_room (inline_at h l) flat)
-
-  pub strips_more : {t : ℕ} {d d' ys : List Float} → length d ≡ size_of g * 1 → FloatBox r f g i t j nj k nk d d' → t < ni → (c : ℕ) → c ≡ nj
-      → ys ≡ strip_of r f κ (m + t * (q.side1 * q.side2)) q.side2 c
-      → (let s : ℕ = (i + t) * q.count1 + j in FloatBox r f g i (t + 1) j nj k nk d (put_mid s (s + nj - s) d' ys))
-  strips_more size b l c ec y = boxed_more0 b (strip_box (inline_at h l) flat _ _ c _ _ (b.size ∙ size ∙ mul-one (size_of g)) refl refl ec y)
+    pub strip_box : (c : ℕ) {d ys : List Float} → length d ≡ size_of g * 1 → c ≡ nj → ys ≡ strip_of r f κ m q.side2 c
+        → Boxed 1 (run_of g 0) (run_of g 1) (run_of g 2) (float_at r f g) i 1 j nj k nk d (put_mid n (n + nj - n) d ys)
+    strip_box c {d} {ys} size ec y =
+        let all : nk ≡ run_of g 2 = one ∙ sym run in
+        rw (top, all)
+        (boxed_rows i j nj n (n + nj) d ys (λ x y z hx hy hz. refl) size h.in_i h.in_j.within
+        (place_is ∙ rw run (omega arith))
+        (rw run (omega arith))
+        (y ∙ rw ec (cat-same nj _ _ column_float)))

@@ -1,2 +1,3 @@
 -- The definitions that the contracts of sampling cite.
 pub mod Samples
+pub mod Laws

@@ -8,9 +8,8 @@ use Rattle.table.specs.declared.Kind.{Kind}
 use Rattle.table.specs.declared.Kind.TheVariants.{Missing, Constant, Stored}
 use Rattle.cube.specs.declared.Region.{Region}
 use Rattle.cube.specs.Places.{item_bytes, rows_of, missing_brick, float_of}
-use Rattle.cube.specs.Regions.{run_of, place}
+use Rattle.cube.specs.Regions.{place}
 use Rattle.runs.specs.declared.Lattice.{Lattice}
-use Rattle.runs.specs.Boxes.{Boxed}
 use Rattle.sampling.specs.declared.Range.{Range}
 
 -- the coding range of the record's grid
@@ -29,11 +28,6 @@ float_at r f g x y z = float_of r (rows_of r f (place g x y z)) ∷ []
 
 abbrev pub one : Record → ℕ
 one r = 1
-
--- new is old, but that a box of the region holds its samples
-abbrev pub FloatBox : Record → List ℕ → Region → ℕ → ℕ → ℕ → ℕ → ℕ → ℕ → List Float → List Float → Type 0
-FloatBox r f g i ni j nj k nk old new =
-    Boxed 1 (run_of g 0) (run_of g 1) (run_of g 2) (float_at r f g) i ni j nj k nk old new
 
 -- n samples of a brick of this kind from item m on: the float of a missing or a constant brick again and again, decoded parts of the file of a stored one
 abbrev pub floats_of : Record → List ℕ → Kind → ℕ → ℕ → List Float

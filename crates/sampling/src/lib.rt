@@ -10,8 +10,9 @@ ghost use Rattle.record.specs.Answers.{Taken};
 ghost use Rattle.cube.specs.Places.{item_bytes, rows_of};
 ghost use Rattle.cube.specs.Calls.{float_read, floats, answer_of, buffers_after};
 ghost use Rattle.cube.specs.Regions.{size_of, float_rows, float_verdict, over};
-ghost use Rattle.runs.specs.Views.{only, IsCorner, IsRowCorner, Roomy, Filled};
+ghost use Rattle.runs.specs.Views.{IsCorner, Roomy, Filled};
 ghost use Rattle.sampling.specs.Samples.{range_of, one, float_at, floats_of, strip_of};
+ghost use Rattle.sampling.specs.Laws.{float_laws};
 
 use cube::{MissingBrick, Region};
 use decoding::{decode, decode_one, fill_floats};
@@ -19,9 +20,9 @@ use endian::copy;
 use floats::widened;
 use record::{Record, Refusal};
 use regions::float_verdict;
-use runs::lattice_of;
-use runs::site::{BrickBox, Corner, Site, Span, View};
-use runs::walk::{Reader, read_bricks};
+use runs::site::{BrickBox, Corner, Site, View};
+use runs::walk::{Items, Reader, read_bricks, read_inlines};
+use runs::{index, lattice_of};
 use table::Kind;
 
 // The coding range, widened once for a call.
@@ -48,47 +49,39 @@ fn missing_floats(out: &mut [f64], missing: MissingBrick)
     fill_floats(out, missing.float);
 }
 
-// As many samples as out has room for, from the corner's item of its brick on. The range is the record's, worked out once for a call; it stands
-// beside the view, which raw reads share.
-fn read_items(out: &mut [f64], v: &View, range: Range, corner: Corner)
-    requires range { range ≡ range_of v.now.site.record.now }
-    requires constant { (n : ℕ) → corner.kind ≡ Constant n → n < 256 ^ item_bytes v.now.site.record.now }
-    requires stored { (o : ℕ) → corner.kind ≡ Stored o → o + (corner.item + length out.old) * v.now.site.lattice.width ≤ length v.now.file.now }
-    ensures { out.new ≡ floats_of v.now.site.record.now v.now.file.now corner.kind corner.item (length out.old) }
-{
-    let q = v.site.lattice;
-    let datatype = v.site.record.description.datatype;
-    match corner.kind {
-        Kind::Missing => missing_floats(out, q.missing),
-        Kind::Constant(raw) => {
-            let value = decode_one(datatype, raw, range.min, range.max);
-            fill_floats(out, value);
-        }
-        Kind::Stored(offset) => {
-            let w = q.width as usize;
-            let a = offset as usize + corner.item * w;
-            let e = a + out.len() * w;
-            decode(out, &v.file[a..e], datatype, range.min, range.max);
-        }
-    }
-}
+impl Items for Range {
+    type Element = f64;
 
-// The rows of a box on one inline. The buffer's room stands at each function, as in the walk: it is lent apart from the view.
-fn read_rows(out: &mut [f64], v: &View, range: Range, corner: Corner, i: usize, j: Span, k: Span)
-    requires range { range ≡ range_of v.now.site.record.now }
-    requires room { Roomy one v.now out.old }
-    requires rows { IsRowCorner v.now corner i j k }
-    ensures { Filled one float_at v.now (only i) j k out.old out.new }
-{
-    let q = v.site.lattice;
-    for t in 0..j.n {
-        let a = (i * q.count1 + (j.at + t)) * q.count2 + k.at;
-        let e = a + k.n;
-        let row = Corner {
-            kind: corner.kind,
-            item: corner.item + t * q.side2,
-        };
-        read_items(&mut out[a..e], v, range, row);
+    ghost width = { one };
+
+    ghost sample = { float_at };
+
+    ghost items = { floats_of };
+
+    ghost laws = { float_laws };
+
+    ghost fits = { λ range r. range ≡ range_of r };
+
+    fn elements(&self, _v: &View) -> usize {
+        1
+    }
+
+    fn read_items(&self, out: &mut [f64], v: &View, corner: Corner, n: usize) {
+        let q = v.site.lattice;
+        let datatype = v.site.record.description.datatype;
+        match corner.kind {
+            Kind::Missing => missing_floats(out, q.missing),
+            Kind::Constant(raw) => {
+                let value = decode_one(datatype, raw, self.min, self.max);
+                fill_floats(out, value);
+            }
+            Kind::Stored(offset) => {
+                let w = index(q.width);
+                let a = offset as usize + corner.item * w;
+                let e = a + n * w;
+                decode(out, &v.file[a..e], datatype, self.min, self.max);
+            }
+        }
     }
 }
 
@@ -135,7 +128,7 @@ fn read_strip(strip: &mut [f64], v: &View, range: Range, corner: Corner)
     match corner.kind {
         Kind::Stored(offset) => {
             let q = v.site.lattice;
-            let w = q.width as usize;
+            let w = index(q.width);
             let n = strip.len();
             let e = n * w;
             let a = offset as usize + corner.item * w;
@@ -144,7 +137,7 @@ fn read_strip(strip: &mut [f64], v: &View, range: Range, corner: Corner)
             let datatype = v.site.record.description.datatype;
             decode(strip, &block[..e], datatype, range.min, range.max);
         }
-        Kind::Missing | Kind::Constant(_) => read_items(strip, v, range, corner),
+        Kind::Missing | Kind::Constant(_) => range.read_items(strip, v, corner, strip.len()),
     }
 }
 
@@ -158,7 +151,7 @@ fn read_strips(out: &mut [f64], v: &View, range: Range, corner: Corner, b: Brick
     let q = v.site.lattice;
     let plane = q.side1 * q.side2;
     for t in 0..b.i.n {
-        let a = (b.i.at + t) * q.count1 + b.j.at;
+        let a = v.sample_no(b.i.at + t, b.j.at, b.k.at);
         let e = a + b.j.n;
         let on = Corner {
             kind: corner.kind,
@@ -168,33 +161,7 @@ fn read_strips(out: &mut [f64], v: &View, range: Range, corner: Corner, b: Brick
     }
 }
 
-// The inlines of a box of any region: the rows of each.
-fn read_inlines(out: &mut [f64], v: &View, range: Range, corner: Corner, b: BrickBox)
-    requires range { range ≡ range_of v.now.site.record.now }
-    requires room { Roomy one v.now out.old }
-    requires corner { IsCorner v.now corner b }
-    ensures { Filled one float_at v.now b.i b.j b.k out.old out.new }
-{
-    let q = v.site.lattice;
-    let plane = q.side1 * q.side2;
-    for t in 0..b.i.n {
-        let on = Corner {
-            kind: corner.kind,
-            item: corner.item + t * plane,
-        };
-        read_rows(out, v, range, on, b.i.at + t, b.j, b.k);
-    }
-}
-
 impl Reader for Range {
-    type Element = f64;
-
-    ghost width = { one };
-
-    ghost sample = { float_at };
-
-    ghost fits = { λ range r. range ≡ range_of r };
-
     // A strip of one sample is better read as a row: it has nothing to gather.
     fn read_box(&self, out: &mut [f64], v: &View, b: BrickBox) {
         let q = v.site.lattice;
@@ -202,7 +169,7 @@ impl Reader for Range {
         if q.count2 == 1 && 1 < b.j.n {
             read_strips(out, v, *self, corner, b);
         } else {
-            read_inlines(out, v, *self, corner, b);
+            read_inlines(out, v, self, corner, b);
         }
     }
 }

@@ -1,7 +1,0 @@
-use Prim.Native.Nat.{◌≤◌}
-use Rattle.reading.specs.Items.{RawBox}
-use Rattle.reading.proofs.read_lines.Given as goal
-
-abbrev pub invariant-loop-t : goal.invariant-loop-t
-invariant-loop-t l = RawBox l.v.site.record.now l.v.file.now l.v.site.region.now l.b.i.at l.t l.b.j.at 1 l.b.k.at l.b.k.n l.initial.out l.out × (l.t
-    ≤ l.b.i.n)
