@@ -21,7 +21,7 @@ use Rattle.runs.specs.Runs.{lattice_of, Placed, Ready, Holds}
 use Rattle.runs.specs.Boxes.{Along, Rows, Block}
 use Rattle.runs.proofs.Lattices.{Numbers, numbers, item_made}
 use Rattle.runs.proofs.Steps.{ready_fit, placed, counts}
-use Rattle.runs.proofs.Boxes.{run_room, rows-room, inline-brick, inline-item, row_brick, row_item, row_fits, rows_fit}
+use Rattle.runs.proofs.Boxes.{run_room, inline-brick, inline-item, row_brick, row_item, row_fits, rows_fit}
 
 -- ---- in the buffer
 
@@ -98,11 +98,6 @@ module _ {r : Record} {f : List ℕ} {g : Region} {q : Lattice} {κ : Kind} {m i
   pub rows-ends : (o : ℕ) → κ ≡ Stored o → o + (m + nk) * item_bytes r ≤ length f
   rows-ends = ends nk (row_fits r g i j k nj nk (ready_fit r f g q h.ready) h.in_j h.in_k)
 
-  pub rows_spot : Spot q.count1 q.count2 i j k nk (size_of g)
-  rows_spot =
-      let n = counts r f g q h.ready in
-      rw (n.1, n.2) (spot_of _ _ i j k nk _ (along_in h.in_k) (simp mul-one at (run_room (run_of g 0) (run_of g 1) (run_of g 2) i j k nk 1 h.in_i (along_in h.in_j) h.in_k.within)))
-
   -- all rows, where they are whole columns of the brick and of the region
   module _ (whole : nk ≡ q.side2) (all : nk ≡ q.count2) where
     pub all_run : nk ≡ run_of g 2
@@ -115,11 +110,6 @@ module _ {r : Record} {f : List ℕ} {g : Region} {q : Lattice} {κ : Kind} {m i
     columns_ends =
         let e : nk ≡ side_of r.description 2 = whole ∙ (sides_are h.ready).2 in
         ends (nj * nk) (rw (e, top) (rows_fit r g i j nj (ready_fit r f g q h.ready) h.in_j (rw (e, top) at h.in_k)))
-
-    pub columns_spot : Spot q.count1 nk i j 0 (nj * nk) (size_of g)
-    columns_spot =
-        rw ((counts r f g q h.ready).1, all_run)
-        (spot_of _ _ i j 0 (nj * run_of g 2) _ (omega (arith, along_in h.in_k)) (simp mul-one at (rows-room (run_of g 0) (run_of g 1) (run_of g 2) i j nj 1 h.in_i h.in_j.within)))
 
   -- the t-th row
   pub row_of : {t : ℕ} → t < nj → Rows r f g q κ (m + t * q.side2) i (j + t) k 1 nk

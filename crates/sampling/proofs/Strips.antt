@@ -1,5 +1,5 @@
 -- Strips: samples of one brick that lie apart in it by a column each, and one after the other in the region. Assumes nothing.
-use Prim.Native.Nat.{ℕ, ◌+◌, ◌-◌, ◌*◌, ◌^◌, ◌≤◌, ◌<◌}
+use Prim.Native.Nat.{ℕ, ◌+◌, ◌-◌, ◌*◌, ◌≤◌, ◌<◌}
 use mathlib.Core.Bool.{true}
 use mathlib.Core.Path.{◌≡◌, refl, sym, ap, ◌∙◌}
 use mathlib.Core.List.{List, [], ◌∷◌}
@@ -29,9 +29,6 @@ use Rattle.runs.specs.declared.Lattice.{Lattice}
 use Rattle.runs.specs.Runs.{lattice_of, Ready}
 use Rattle.runs.proofs.Steps.{ready_fit, ready-width, lattice_width, counts}
 use Rattle.runs.proofs.Boxes.{rows-room, boxed_rows}
-use Rattle.runs.specs.declared.site.Corner.{Corner}
-use Rattle.runs.specs.declared.site.View.{View}
-use Rattle.runs.specs.Readers.{IsRun}
 use Rattle.runs.specs.Boxes.{Boxed, Rows}
 use Rattle.runs.proofs.Rows.{rows-ends, row_of}
 use Rattle.sampling.specs.declared.Range.{Range}
@@ -60,13 +57,6 @@ module _ (f : List ℕ) (o m n s w : ℕ) (ends : (t : ℕ) → t < n → o + (m
   -- and what it puts together
   pub strip_long : {bytes : List ℕ} → bytes ≡ cat n (λ t. peek f (o + m * w + t * (s * w)) w) → length bytes ≡ n * w
   strip_long e = ap length e ∙ length-cat _ _ _ (λ t l. length-peek _ _ _ (strip_end t l))
-
--- a brick that is not stored: what `read_items` asks of it
-pub one_run : (v : View) (c : Corner) (n : ℕ) → (c.kind ≡ Missing) ⊎ ((x : ℕ) × (c.kind ≡ Constant x)) → ((x : ℕ) → c.kind ≡ Constant x → x < 256 ^ item_bytes v.site.record.now) → IsRun v c n
-one_run v c n one constant = record {
-  constant = constant;
-  stored = λ o e. ⊎_elim (λ x. let z : ◌≡◌ {A = ℕ} 0 1 = cc in omega arith) (λ p. let d = p.1 in let z : ◌≡◌ {A = ℕ} 0 1 = cc in omega arith) one;
-}
 
 -- ---- the samples of a brick of this kind
 

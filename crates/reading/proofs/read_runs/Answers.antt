@@ -44,9 +44,11 @@ read_items-requires c =
     }
 
 pub loop-t-preserved : goal.loop-t-preserved
-loop-t-preserved c =
-    (boxed_more0 c.loop-t.invariant.0 (run_box c.args.v.now (inline_at c.requires.corner c.loop-t-test.true) c.requires.run c.sample_no.ensures c.index-w.ensures.0
-    (c.loop-t.invariant.0.size ∙ c.requires.room) c.read_items.ensures), omega arith)
+loop-t-preserved c = (
+  boxed_more0 c.loop-t.invariant.0 (run_box c.args.v.now (inline_at c.requires.corner c.loop-t-test.true) c.requires.run c.sample_no.ensures c.index-w.ensures.0
+      (c.loop-t.invariant.0.size ∙ c.requires.room) c.read_items.ensures),
+  omega arith,
+)
 
 pub returns : goal.returns
 returns c = let e : c.loop-t.t ≡ c.args.b.i.n = omega arith in rw e at c.loop-t.invariant.0
