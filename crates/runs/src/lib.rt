@@ -16,7 +16,8 @@ pub mod site;
 pub mod walk;
 
 // A region among the bricks of its level, worked out once for a call. Each number of a direction has a name of its own and stands in no array: no
-// loop goes over the directions.
+// loop goes over the directions. Nor does a struct hold those of a direction: its ghost field, that the side is a power of two, would have to hold of
+// `lattice_of`, which is defined for every record.
 #[derive(Clone, Copy)]
 pub struct Lattice {
     // The brick table, and what numbers the bricks of the level.

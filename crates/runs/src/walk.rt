@@ -52,8 +52,8 @@ pub trait Reader: Items {
         ensures { Filled Self.width Self.sample v.now b.i b.j b.k out.old out.new };
 }
 
-// The rows of a box on one inline. The buffer's room and what the reader was made for stand at each function: the buffer is written and
-// the view is not, so they are lent apart, and only a call brings them together.
+// The rows of a box on one inline. The buffer's room and what the reader was made for stand at each function. Buffer, view and reader make no struct
+// of their own: it would be lent to be changed, so that each function would have to promise besides that view and reader stay as they are.
 fn read_rows<R: Items>(
     out: &mut [R::Element],
     v: &View,
