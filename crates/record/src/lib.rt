@@ -177,8 +177,7 @@ pub fn width_of(datatype: u8) -> u32
     ensures { result ≡ width_of datatype }
 {
     match coding_of(datatype) {
-        Ok(Coding::Scaled { width, half: _ }) => width,
-        Ok(Coding::Float32 { width }) => width,
+        Ok(Coding::Scaled { width, .. } | Coding::Float32 { width }) => width,
         Err(_) => 0,
     }
 }
@@ -249,7 +248,7 @@ pub fn description_at(file: &[u8]) -> Description
 fn floats_of(bits: [u32; 3]) -> [f32; 3]
     ensures { result ≡ floats_of bits }
 {
-    [float_of(bits[0]), float_of(bits[1]), float_of(bits[2])]
+    bits.map(float_of)
 }
 
 // The bits of an end of the coding range that the grid keeps: 0 for type 6, which has no coding range. The grid goes to C as it
@@ -289,10 +288,10 @@ pub fn brick_bytes_in(d: Description) -> u64
     ensures { (result ≡ brick_bytes_of d) × (result ≤ bytes_room) }
 {
     brick_bytes(
-        d.side[0] as u64,
-        d.side[1] as u64,
-        d.side[2] as u64,
-        width_of(d.datatype) as u64,
+        u64::from(d.side[0]),
+        u64::from(d.side[1]),
+        u64::from(d.side[2]),
+        u64::from(width_of(d.datatype)),
     )
 }
 
@@ -308,7 +307,7 @@ pub fn record_of(version: u32, d: Description, text: u32, length: u64) -> Record
         description: d,
         text,
         grid,
-        header: header_end(text as u64, shape.alphas, shape.bricks),
+        header: header_end(u64::from(text), shape.alphas, shape.bricks),
         levels: shape.levels as u32,
         bricks: shape.bricks as u32,
         alphas: shape.alphas as u32,
