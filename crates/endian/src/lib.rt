@@ -49,6 +49,8 @@ pub fn u64_at(s: &[u8], at: usize) -> u64
 
 // Byte by byte: runs below 4 bytes, and the load and the store of a piece. That both slices have one length stands at each function here, as it
 // does at the library's copy_from_slice: they are two slices of the caller's.
+// The places are counted by `enumerate`. With a `zip` of both slices the proof doesn't close: what `out` holds is known after a loop over its `iter_mut()`
+// or the `enumerate()` of it, and after one over another adapter only its length is.
 fn copy_bytes(out: &mut [u8], src: &[u8])
     requires { length src.now ≡ length out.old }
     ensures { out.new ≡ src.now }
