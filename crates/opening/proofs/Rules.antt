@@ -10,7 +10,7 @@ use lib.Ieee.{binary32, of_bits, lt}
 use lib.ListN.{get_or, length, take, length-take, length-drop}
 use lib.Seq.{get_or-take}
 use borrow.Author.Tests.{eqb-true, eq-eqb, le-leb, ltb-false, le-ltb}
-use Rattle.std.proofs.lemmas.Bool.{and_parts, not-false, or_cases}
+use Rattle.std.proofs.lemmas.Bool.{and_parts, not-false, or_cases, or_right}
 use Rattle.record.proofs.Laws.{coding_each}
 use Rattle.geometry.specs.Limits.{size_limit, shortest_text, longest_text, text_start}
 use Rattle.endian.specs.Loops.{first}
@@ -142,10 +142,6 @@ range-is : (min max : ℕ) → CodingRange min max → range_ok min max ≡ true
 unfolding range_ok
 range-is min max r =
     simp (from_truth (finite_bits min) r.min-finite, from_truth (finite_bits max) r.max-finite, from_truth (lt (of_bits binary32 min) (of_bits binary32 max)) r.below)
-
-or_right : (a b : Bool) → b ≡ true → a || b ≡ true
-or_right true b e = refl
-or_right false b e = e
 
 module _ (d : Description) where
   rule4_of : breaks4 d ≡ false → (i : ℕ) → i < 3 → Side (side_of d i)
