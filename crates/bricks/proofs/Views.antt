@@ -8,6 +8,7 @@ use native.Mathlib.Omega.{arith}
 use lib.ListN.{length, take, drop}
 use denote.Ref.{Bor}
 use borrow.Author.Tests.{lt-ltb, le-ltb, ltb-false}
+use Rattle.std.proofs.lemmas.Bool.{not-false}
 use Rattle.record.specs.Answers.{refused, Taken}
 use Rattle.record.specs.Types.{width_of}
 use Rattle.record.specs.Record.{side_of, brick_bytes_of}
@@ -15,7 +16,7 @@ use Rattle.record.specs.declared.Description.{Description}
 use Rattle.record.specs.declared.Record.{Record}
 use Rattle.record.specs.declared.Refusal.{Refusal}
 use Rattle.checks.specs.Checks.{all3, side_ok, breaks4}
-use Rattle.checks.proofs.Described.{passed, not-false, all3-each, side_multiple, Described}
+use Rattle.checks.proofs.Described.{passed, all3-each, side_multiple, Described}
 use Rattle.table.specs.declared.Kind.{Kind}
 use Rattle.table.specs.declared.Kind.TheVariants.{Missing, Constant}
 use Rattle.table.specs.Entries.{kind_in}

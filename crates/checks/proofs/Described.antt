@@ -11,7 +11,7 @@ use lib.Dec.{leb}
 use lib.ListN.{get_or}
 use lib.Pow.{pow-add}
 use borrow.Author.Tests.{leb-true, ltb-false}
-pub use Rattle.endian.proofs.Search.{both, either}
+use Rattle.std.proofs.lemmas.Bool.{and_parts, not-false}
 use Rattle.geometry.specs.Limits.{least_exponent, IsPower, size_limit, shortest_text, longest_text, side_room}
 use Rattle.geometry.specs.Geometry.{Between, Power}
 use Rattle.geometry.proofs.Powers.{power_of, power-is, zeros-power}
@@ -39,15 +39,11 @@ pub taken_is : (v : Verdict) → is_taken v ≡ true → v ≡ Taken
 taken_is (Ok u) e = refl
 taken_is (Err x) e = absurd (false≢true e)
 
-pub not-false : (b : Bool) → not b ≡ false → b ≡ true
-not-false true e = refl
-not-false false e = absurd (false≢true (sym e))
-
 -- what holds of all three directions holds of each
 pub all3-each : (p : ℕ → Bool) (l : List ℕ) → all3 p l ≡ true → (p (get_or l 0 0) ≡ true) × (p (get_or l 1 0) ≡ true) × (p (get_or l 2 0) ≡ true)
 all3-each p l e =
-    let x = both (p (get_or l 0 0) && p (get_or l 1 0)) (p (get_or l 2 0)) e in
-    let y = both (p (get_or l 0 0)) (p (get_or l 1 0)) x.0 in
+    let x = and_parts (p (get_or l 0 0) && p (get_or l 1 0)) (p (get_or l 2 0)) e in
+    let y = and_parts (p (get_or l 0 0)) (p (get_or l 1 0)) x.0 in
     (y.0, y.1, x.1)
 
 -- what holds of 0, 1 and 2 holds of each direction
@@ -90,7 +86,7 @@ side_multiple n e =
 
 pub size-range : (n : ℕ) → size_ok n ≡ true → Between 1 size_limit n
 unfolding size_ok
-size-range n e = let p = both (leb 1 n) (leb n size_limit) e in record { low = leb-true 1 n p.0; high = leb-true n size_limit p.1 }
+size-range n e = let p = and_parts (leb 1 n) (leb n size_limit) e in record { low = leb-true 1 n p.0; high = leb-true n size_limit p.1 }
 
 -- sides and sizes that checks 4 and 6 let pass
 pub sized : (d : Description) → breaks4 d ≡ false → breaks6 d ≡ false → Sized d
@@ -113,7 +109,7 @@ sized d e4 e6 =
 -- and so where none of checks 4 to 7 applies
 pub fields_sized : (d : Description) → fields_fit d ≡ true → Sized d
 unfolding fields_fit
-fields_sized d e = let p = go (breaks4 d) (breaks6 d) (breaks7 d) (both (is_taken (verdict5 d)) _ e).1 in sized d p.0 p.1
+fields_sized d e = let p = go (breaks4 d) (breaks6 d) (breaks7 d) (and_parts (is_taken (verdict5 d)) _ e).1 in sized d p.0 p.1
   where
     go : (a b c : Bool) → not (a || b || c) ≡ true → (a ≡ false) × (b ≡ false)
     go true b c h = absurd (false≢true h)
@@ -124,7 +120,7 @@ fields_sized d e = let p = go (breaks4 d) (breaks6 d) (breaks7 d) (both (is_take
 pub text_few : (t : ℕ) → breaks9 t ≡ false → (shortest_text ≤ t) × (t ≤ longest_text)
 unfolding breaks9
 text_few t e =
-    let q = both (leb shortest_text t) (leb t longest_text) (not-false _ e) in (leb-true shortest_text t q.0, leb-true t longest_text q.1)
+    let q = and_parts (leb shortest_text t) (leb t longest_text) (not-false _ e) in (leb-true shortest_text t q.0, leb-true t longest_text q.1)
 
 -- checks 4 to 9, none of which applies
 pub record Described (d : Description) (t : ℕ) : Type 0 where

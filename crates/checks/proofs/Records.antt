@@ -1,5 +1,5 @@
 -- Check 14 as facts: what a record owes that passes it, and that the record which follows from a description passes it. Assumes nothing.
-use mathlib.Core.Bool.{Bool, true, false, not, cond, false≢true}
+use mathlib.Core.Bool.{Bool, true, false, cond, false≢true}
 use mathlib.Core.List.{List}
 use mathlib.Core.Logic.{◌⊎◌, inl, inr, ⊎_elim}
 use mathlib.Core.Path.{◌≡◌, refl, sym, ◌∙◌}
@@ -8,6 +8,7 @@ use lib.Dec.{eqb}
 use lib.ListN.{get_or}
 use lib.Ieee.{binary32, of_bits}
 use borrow.Author.Tests.{eqb-true, eq-eqb, leb-true, le-leb}
+use Rattle.std.proofs.lemmas.Bool.{and_parts, not-false, or_cases, not-true}
 use Rattle.floats.specs.Rules.{finite_bits, range_ok, same_bits}
 use Rattle.floats.proofs.Patterns.{same_of, same-zero, range-finite}
 use Rattle.record.specs.Record.{bound_of, floats_of, grid_of, header_of, levels_of, bricks_of, alphas_of, record_of}
@@ -15,7 +16,7 @@ use Rattle.record.specs.declared.Description.{Description}
 use Rattle.record.specs.declared.Record.{Record}
 use Rattle.checks.specs.Checks.{all3, breaks3, breaks7}
 use Rattle.checks.specs.Fits.{same3, grid_fits, numbers_fit, record_fits, breaks14, breaks14_with}
-use Rattle.checks.proofs.Described.{taken_is, both, either, not-false, all3-each, Described, described-all, described-is}
+use Rattle.checks.proofs.Described.{taken_is, all3-each, Described, described-all, described-is}
 
 -- a record that passes check 14
 pub record Fit (r : Record) : Type 0 where
@@ -28,20 +29,16 @@ pub record Fit (r : Record) : Type 0 where
   pub alphas-is : r.alphas ≡ alphas_of r.description
   pub long : r.header ≤ r.length
 
-not-true : (b : Bool) → not b ≡ true → b ≡ false
-not-true true e = absurd (false≢true e)
-not-true false e = refl
-
 pub fits_all : (r : Record) → record_fits r ≡ true → Fit r
 unfolding record_fits numbers_fit
 fits_all r e =
-    let a = both _ _ e in
-    let b = both _ _ a.0 in
-    let c = both _ _ b.0 in
-    let n4 = both _ _ a.1 in
-    let n3 = both _ _ n4.0 in
-    let n2 = both _ _ n3.0 in
-    let n1 = both _ _ n2.0 in
+    let a = and_parts _ _ e in
+    let b = and_parts _ _ a.0 in
+    let c = and_parts _ _ b.0 in
+    let n4 = and_parts _ _ a.1 in
+    let n3 = and_parts _ _ n4.0 in
+    let n2 = and_parts _ _ n3.0 in
+    let n1 = and_parts _ _ n2.0 in
     record {
       version_ok = not-true (breaks3 r.version) c.0;
       is-described = described-all r.description r.text (taken_is _ c.1);
@@ -78,9 +75,9 @@ pub record Finites (d : Description) : Type 0 where
 pub finites : (d : Description) → breaks7 d ≡ false → Finites d
 unfolding breaks7
 finites d e =
-    let a = both _ _ (not-false _ e) in
-    let b = both (all3 finite_bits d.orig) (all3 finite_bits d.inc) a.0 in
-    record { origs = b.0; incs = b.1; coded = either _ _ a.1 }
+    let a = and_parts _ _ (not-false _ e) in
+    let b = and_parts (all3 finite_bits d.orig) (all3 finite_bits d.inc) a.0 in
+    record { origs = b.0; incs = b.1; coded = or_cases _ _ a.1 }
 
 bound_same : (k b : ℕ) → b < 4294967296 → (eqb k 6 ≡ true) ⊎ (finite_bits b ≡ true) → same_bits (of_bits binary32 (bound_of k b)) (bound_of k b) ≡ true
 bound_same k b w h = go (eqb k 6) refl h
@@ -114,7 +111,7 @@ fit_with r n f e = simp (fits-is r f, eq-eqb _ _ e)
 pub with_fit : (r : Record) (n : ℕ) → breaks14_with r n ≡ false → Fit r × (r.length ≡ n)
 unfolding breaks14_with
 with_fit r n e =
-    let a = both _ _ (not-false _ e) in
+    let a = and_parts _ _ (not-false _ e) in
     (fits_all r a.0, eqb-true _ _ a.1)
 
 -- a record that passes check 14 where no file is lent

@@ -1,5 +1,6 @@
 // Checks 2 to 9, 11 and 14 of FORMAT 9.2. A test joins its parts by `|` and `&`, plain operations on bools, so
-// that it is its definition as it stands.
+// that it is its definition as it stands. A check answers a bool and no Result, also where it is public: it is a question that its definition answers by a
+// Bool, and asking cannot fail. The refusal is named where the checks are put in order, once for each row of the table.
 #![tactic(auto)]
 
 ghost use Rattle.std.specs.Prelude.{◌≡◌, not, ◌&&◌, ◌≤◌, ◌<◌, length};
@@ -13,7 +14,7 @@ use floats::{finite_bits, range_ok, same_bits};
 use geometry::{
     BRICK_LIMIT, LEAST_EXPONENT, LONGEST_TEXT, SHORTEST_TEXT, SIZE_LIMIT, header_end, power_in,
 };
-use record::{Description, Grid, Record, Refusal, bound_of, coding_of, shape_in};
+use record::{Coding, Description, Grid, Record, Refusal, bound_of, coding_of, shape_in};
 
 #[tactic(auto, unfolding(crate::specs::Checks::breaks2))]
 pub fn check2(file: &[u8]) -> bool
@@ -48,7 +49,7 @@ fn check4(d: Description) -> bool
 fn size_ok(n: u32) -> bool
     ensures { result ≡ size_ok n }
 {
-    (1 <= n) & (n <= SIZE_LIMIT)
+    (1..=SIZE_LIMIT).contains(&n)
 }
 
 #[tactic(auto, unfolding(crate::specs::Checks::breaks6))]
@@ -64,12 +65,12 @@ fn finite3(bits: [u32; 3]) -> bool
     finite_bits(bits[0]) & finite_bits(bits[1]) & finite_bits(bits[2])
 }
 
-#[tactic(auto, unfolding(crate::specs::Checks::breaks7))]
+#[tactic(auto, unfolding(crate::specs::Checks::breaks7, record::specs::Types::coding_of))]
 fn check7(d: Description) -> bool
     ensures { result ≡ breaks7 d }
 {
-    let by_range = (d.datatype == 6) | range_ok(d.range[0], d.range[1]);
-    !(finite3(d.orig) & finite3(d.inc) & by_range)
+    let no_range = matches!(coding_of(d.datatype), Ok(Coding::Float32 { .. }));
+    !(finite3(d.orig) & finite3(d.inc) & (no_range | range_ok(d.range[0], d.range[1])))
 }
 
 fn check8(d: Description) -> bool
@@ -84,7 +85,7 @@ fn check8(d: Description) -> bool
 fn check9(text: u32) -> bool
     ensures { result ≡ breaks9 text }
 {
-    !((SHORTEST_TEXT <= text) & (text <= LONGEST_TEXT))
+    !(SHORTEST_TEXT..=LONGEST_TEXT).contains(&text)
 }
 
 // Checks 4 to 9 of a description and the length of a text.

@@ -9,6 +9,7 @@ use lib.Arith.{digits_div, digits_mod}
 use lib.ListN.{length}
 use lib.Dec.{leb, ltb}
 use borrow.Author.Tests.{leb-true, leb-false, ltb-false, lt-ltb, le-ltb, le-leb, lt-leb, eqb-true, eq-eqb}
+use Rattle.std.proofs.lemmas.Bool.{and_parts, not-false}
 use Rattle.endian.specs.Loops.{tri}
 use Rattle.endian.proofs.Digits.{tri-lt, pos-right}
 use Rattle.endian.proofs.Search.{any_at, any-is}
@@ -16,7 +17,7 @@ use Rattle.record.specs.Answers.{refused, Verdict, Taken}
 use Rattle.record.specs.Record.{extent_along, levels_of}
 use Rattle.record.specs.declared.Record.{Record}
 use Rattle.checks.specs.Fits.{breaks14_with}
-use Rattle.checks.proofs.Described.{passed, both, not-false}
+use Rattle.checks.proofs.Described.{passed}
 use Rattle.checks.proofs.Records.{Fit, with_fit}
 use Rattle.table.specs.Entries.{breaks12}
 use Rattle.table.proofs.Tables.{stored-inside}
@@ -81,14 +82,14 @@ module _ (r : Record) where
 
   run_inside_lem : (g : Region) (i : ℕ) → run_inside r g i ≡ true → (1 ≤ run_of g i) × (start_of g i + run_of g i ≤ extent_along r.description g.level i)
   run_inside_lem g i e =
-      let h = both (leb 1 (run_of g i)) _ e in
+      let h = and_parts (leb 1 (run_of g i)) _ e in
       (leb-true _ _ h.0, leb-true _ _ h.1)
 
   pub within : (g : Region) → Fit r → leb r.levels g.level ≡ false → in_extent r g ≡ true → Within g
   unfolding in_extent
   within g ok x y =
-      let t = both (run_inside r g 0 && run_inside r g 1) (run_inside r g 2) y in
-      let u = both (run_inside r g 0) (run_inside r g 1) t.0 in
+      let t = and_parts (run_inside r g 0 && run_inside r g 1) (run_inside r g 2) y in
+      let u = and_parts (run_inside r g 0) (run_inside r g 1) t.0 in
       record {
         level = omega (arith, leb-false r.levels g.level x, ok.levels-is);
         run0 = run_inside_lem g 0 u.0;

@@ -11,12 +11,12 @@ use native.Mathlib.Nat.{add-sub_cancel_left, le_trans, le_refl, div-add-mod'}
 use lib.ListN.{length, take}
 use lib.Dec.{eqb, leb, ltb}
 use borrow.Author.Tests.{ltb-true, leb-true, eqb-true, lt-ltb, le-ltb, le-leb, eq-eqb}
+use Rattle.std.proofs.lemmas.Bool.{and_parts}
 use Rattle.endian.specs.Loops.{tri}
 use Rattle.endian.specs.Bytes.{peek, put}
 use Rattle.endian.proofs.Digits.{tri_inj, tri-lt, next_item}
 use Rattle.record.specs.Record.{header_of, table_of}
 use Rattle.record.specs.declared.Record.{Record}
-use Rattle.checks.proofs.Described.{both}
 use Rattle.checks.proofs.Records.{Fit}
 use Rattle.table.specs.declared.Kind.{Kind}
 use Rattle.table.specs.declared.Kind.TheVariants.{Missing, Constant, Stored}
@@ -45,7 +45,7 @@ record In (g : Region) (p : Place) : Type 0 where
 
 pub between-true : (a c x : ℕ) → between a c x ≡ true → (a ≤ x) × (x < a + c)
 between-true a c x e =
-    let h = both (leb a x) (ltb x (a + c)) e in
+    let h = and_parts (leb a x) (ltb x (a + c)) e in
     (leb-true a x h.0, ltb-true x (a + c) h.1)
 
 between_at : (a c i : ℕ) → i < c → between a c (a + i) ≡ true
@@ -55,9 +55,9 @@ module _ (g : Region) where
   has-true : (p : Place) → has g p ≡ true → In g p
   unfolding has
   has-true p e =
-      let h = both (eqb g.level p.lvl) _ e in
-      let h0 = both (between (start_of g 0) (run_of g 0) p.i) _ h.1 in
-      let h1 = both (between (start_of g 1) (run_of g 1) p.j) _ h0.1 in
+      let h = and_parts (eqb g.level p.lvl) _ e in
+      let h0 = and_parts (between (start_of g 0) (run_of g 0) p.i) _ h.1 in
+      let h1 = and_parts (between (start_of g 1) (run_of g 1) p.j) _ h0.1 in
       let b0 = between-true (start_of g 0) (run_of g 0) p.i h0.0 in
       let b1 = between-true (start_of g 1) (run_of g 1) p.j h1.0 in
       let b2 = between-true (start_of g 2) (run_of g 2) p.k h1.1 in

@@ -1,29 +1,15 @@
 -- Laws of `first` and `sum_to`. Assumes nothing.
-use mathlib.Core.Path.{◌≡◌, refl, sym, ◌∙◌}
-use mathlib.Core.Logic.{◌⊎◌, inl, inr, ⊎_elim}
-use mathlib.Core.Bool.{Bool, true, false, ◌&&◌, ◌||◌}
+use mathlib.Core.Path.{◌≡◌, refl, ◌∙◌}
+use mathlib.Core.Logic.{⊎_elim}
+use mathlib.Core.Bool.{Bool, true, false}
 use Prim.Native.Nat.{ℕ, zero, suc, ◌+◌, ◌≤◌, ◌<◌, zero-le}
 use native.Mathlib.Decide.{dec_le}
 use native.Mathlib.Nat.{eq-or-lt_of_le, lt_of_not-le, not-suc-le-zero, le_refl, add-suc, add-zero}
 use native.Mathlib.Numerals.{add-one}
 use native.Mathlib.Omega.{arith}
 use borrow.Author.Tests.{ltb-true, lt-ltb}
+use Rattle.std.proofs.lemmas.Bool.{both_ways}
 use Rattle.endian.specs.Loops.{first_from, first, any, sum_to}
-
--- what is both true and false
-pub clash : {X : Type 0} (b : Bool) → b ≡ true → b ≡ false → X
-clash {X} b t f = absurd (let z : ◌≡◌ {A = Bool} true false = sym t ∙ f in no_true z)
-  where
-    no_true : ◌≡◌ {A = Bool} true false → ⊥
-    no_true z = let w : ◌≡◌ {A = ℕ} 0 1 = cc in omega arith
-
-pub both : (a b : Bool) → a && b ≡ true → (a ≡ true) × (b ≡ true)
-both true b e = (refl, e)
-both false b e = clash false e refl
-
-pub either : (a b : Bool) → a || b ≡ true → (a ≡ true) ⊎ (b ≡ true)
-either true b e = inl refl
-either false b e = inr e
 
 from-true : (p : ℕ → Bool) (k fuel : ℕ) → p k ≡ true → first_from p k (suc fuel) ≡ k
 unfolding first_from
@@ -89,7 +75,7 @@ pub first_upto : (p : ℕ → Bool) (n m : ℕ) → p m ≡ true → first p n �
 first_upto p n m e =
     elim (dec_le (first p n) m) [
       | yes h ↦ h
-      | no h ↦ clash (p m) e (first_before p n m (lt_of_not-le h))
+      | no h ↦ absurd (both_ways (p m) (first_before p n m (lt_of_not-le h)) e)
     ]
 
 -- one of n numbers passes: some number does, and any that does

@@ -4,7 +4,9 @@
 ghost use Rattle.std.specs.Prelude.{◌≡◌, ◌+◌, ◌*◌, ◌<◌, ◌≤◌, length, get_or};
 ghost use Rattle.endian.specs.Bytes.{le, peek, put};
 
-// A number of each width at a place. Each stays a function of its own, since no trait makes one of the library's from_le_bytes of each type.
+// A byte at a place, and a number of 2, 4 or 8 bytes. Each stays a function of its own: no trait of std has `from_le_bytes` of every width. With
+// `FromBytes` of num_traits `le` would have to be carried through that trait's own words, for one line at each width, and byteorder has a function for
+// each width as well.
 pub fn u8_at(s: &[u8], at: usize) -> u8
     requires { at < length s.now }
     ensures { result ≡ get_or s.now at 0 }
@@ -47,6 +49,8 @@ pub fn u64_at(s: &[u8], at: usize) -> u64
 
 // Byte by byte: runs below 4 bytes, and the load and the store of a piece. That both slices have one length stands at each function here, as it
 // does at the library's copy_from_slice: they are two slices of the caller's.
+// The places are counted by `enumerate`. With a `zip` of both slices the proof doesn't close: what `out` holds is known after a loop over its `iter_mut()`
+// or the `enumerate()` of it, and after one over another adapter only its length is.
 fn copy_bytes(out: &mut [u8], src: &[u8])
     requires { length src.now ≡ length out.old }
     ensures { out.new ≡ src.now }
@@ -95,8 +99,8 @@ fn copy_blocks(out: &mut [u8], src: &[u8], size: usize)
 }
 
 // The copying leaf. Each size is a literal, so that the loop is compiled for it: a run below 64 bytes is two blocks at most. The library's
-// copy_from_slice calls memcpy: with it 3 x 3 x 3 samples took an eighth to a quarter longer to read, and sections of small bricks a third to a
-// half, beyond the bar of 1.1 of plain Rust for sections. With the size as a const parameter, and a piece as an array of it, such sections took up to a third longer.
+// copy_from_slice calls memcpy: with it raw reads of sections took 17 to 20 % longer (docs/PERFORMANCE.md, after the pass over the design), beyond the bar of
+// 1.1 of plain Rust for sections. With the size as a const parameter, and a piece as an array of it, such sections took up to a third longer.
 pub fn copy(out: &mut [u8], src: &[u8])
     requires { length src.now ≡ length out.old }
     ensures { out.new ≡ src.now }

@@ -1,13 +1,14 @@
 -- Which patterns and values are finite, and when a value has a pattern. Assumes nothing.
 use Rattle.std.proofs.Common.{◌≡◌, ℕ, zero, suc, ◌+◌, ◌*◌, ◌/◌, ◌%◌, ◌^◌, ◌<◌, ◌≤◌, Bool, true, false, cond, not, ◌&&◌, T, eqb, ltb, leb, pos, sym, refl, ap, ◌∙◌, subst, true≢false, mod-lt, arith, lit<, eqb→eq, le-ltb, lt-ltb, eq-eqb, ne_eqb}
 use mathlib.Core.Bool.{false≢true, and-false}
-use lib.Ieee.{Float, nan, inf, fin, Format, binary32, binary64, odd, of_fields, of_bits, nan_bits, to_bits, is_nan, fits, ne, lt, mul, of_int, round, units, unlike, prec, emax, low, up, down}
-use lib.Ieee.Fits.{and_i, and_l, and_r, fits_widens, round_is}
+use lib.Ieee.{Float, nan, inf, fin, Format, binary32, odd, of_fields, of_bits, to_bits, is_nan, fits, ne, lt, mul, of_int, round, units, unlike, prec, emax, low, up, down}
+use lib.Ieee.Fits.{and_l, and_r, round_is}
 use lib.Ieee.Exact.{HasValue}
 use lib.Ieee.Back.{round_whole}
 use lib.Ieee.Order.{drop, kept}
 use lib.Ieee.Bits.{nan_bits_is, nan_bits_above, of_bits-to_bits, of_bits-fits, to_bits-of_bits, is_true}
 use lib.Ieee.Compare.{nan_differs}
+use Rattle.std.proofs.lemmas.Float.{not_nan_f32_bits}
 use Rattle.floats.specs.Rules.{finite, finite_bits, same_bits, range_ok}
 use Rattle.floats.proofs.Rounding.{split}
 
@@ -17,10 +18,6 @@ unfolding finite is_nan
 finite_no_nan nan t = t
 finite_no_nan (inf s) t = tt
 finite_no_nan (fin s m e) t = tt
-
--- what `x as f64` asks of a finite f32
-pub widens : (x : Float) → T (fits binary32 x) → T (finite x) → T (fits binary64 x && not (is_nan x))
-widens x h t = and_i (fits binary64 x) (not (is_nan x)) (fits_widens x h) (finite_no_nan x t)
 
 -- ---- patterns: the exponent's field is not all ones
 odd-finite : (d : ℕ) (s : Bool) (q k l : ℕ) → finite (odd d s q k l) ≡ true
@@ -69,11 +66,8 @@ nan_of (fin s m e') e = absurd (false≢true e)
 pub nan_pattern : (b : ℕ) → 2139095040 < b % 2147483648 → of_bits binary32 b ≡ nan
 nan_pattern b h = nan_of (of_bits binary32 b) (sym (nan_bits_is binary32 b) ∙ nan_bits_above binary32 b ∙ lt-ltb 2139095040 (b % 2147483648) h)
 
-pub no_nan_pattern : (b : ℕ) → b % 2147483648 ≤ 2139095040 → T (not (nan_bits binary32 b))
-no_nan_pattern b h = subst (λ (t : Bool). T (not t)) (sym (nan_bits_above binary32 b ∙ le-ltb 2139095040 (b % 2147483648) h)) tt
-
 pub no_nan_value : (b : ℕ) → b % 2147483648 ≤ 2139095040 → T (not (is_nan (of_bits binary32 b)))
-no_nan_value b h = subst (λ (t : Bool). T (not t)) (nan_bits_is binary32 b) (no_nan_pattern b h)
+no_nan_value b h = subst (λ (t : Bool). T (not t)) (nan_bits_is binary32 b) (not_nan_f32_bits b h)
 
 -- ---- a value and a pattern
 pub equals_itself : (x : Float) → ne x x ≡ false → T (not (is_nan x))

@@ -36,7 +36,7 @@ pub fn widen_bits(bits: u32) -> f64
     if unsigned(bits) > INFINITY {
         return f64::NAN;
     }
-    f32::from_bits(bits) as f64
+    f64::from(f32::from_bits(bits))
 }
 
 pub fn finite_bits(bits: u32) -> bool
@@ -61,14 +61,14 @@ pub fn same_bits(x: f32, bits: u32) -> bool
 pub fn widened(x: f32) -> f64
     ensures { result ≡ x }
 {
-    std::num::f32_to_f64_with_nan(x)
+    f64::from(x)
 }
 
 // The conversion in the order of FORMAT 11.3; a reciprocal would give other bits.
 fn converted(s: i32, lo: i32, hi: i32, min: f64, max: f64) -> f64
     ensures { result ≡ convert lo hi min max s }
 {
-    (max - min) * ((s as f64) - (lo as f64)) / ((hi as f64) - (lo as f64)) + min
+    (max - min) * (f64::from(s) - f64::from(lo)) / (f64::from(hi) - f64::from(lo)) + min
 }
 
 // An item of an integer type: the unsigned number of its bytes, and half of the type's numbers. They go from -half to half - 1: half is 128
@@ -107,10 +107,11 @@ impl Item {
     pub fn value(self) -> f64
         ensures { result ≡ integer_of self.half self.raw }
     {
-        self.signed() as f64
+        f64::from(self.signed())
     }
 
-    // Its signed number, scaled to the coding range, whose ends are two arguments everywhere, as the float rules name them.
+    // Its signed number, scaled to the coding range. The ends are two arguments, as the float rules' definitions and the edit `scaled_from_highest` have them;
+    // `sampling` holds them together because it hands them on through its loops.
     pub fn scaled(self, min: f64, max: f64) -> f64
         ensures { result ≡ scaled_of self.half min max self.raw }
     {
@@ -123,7 +124,7 @@ pub fn position(orig: f32, inc: f32, i: u32) -> f64
     ensures value { result ≡ position_of orig inc i }
     ensures error { Near orig inc i result }
 {
-    orig as f64 + (i as f64) * (inc as f64)
+    f64::from(orig) + f64::from(i) * f64::from(inc)
 }
 
 // The bits of inc x size; a product past the largest float is infinite, and is written so.

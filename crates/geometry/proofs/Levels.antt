@@ -10,10 +10,11 @@ use lib.Pow.{pow_pos}
 use lib.Dec.{eqb}
 use lib.ListN.{get_or}
 use borrow.Author.Tests.{eqb-true, eq-eqb}
+use Rattle.std.proofs.lemmas.Bool.{both_ways}
 use Rattle.std.specs.Int.{div_ceil}
 use Rattle.std.proofs.lemmas.Grind.{div_ceil_times}
 use Rattle.endian.specs.Loops.{first, first_from, sum_to}
-use Rattle.endian.proofs.Search.{clash, first-le, first_upto, first_at, first_before, first-is}
+use Rattle.endian.proofs.Search.{first-le, first_upto, first_at, first_before, first-is}
 use Rattle.geometry.specs.Limits.{least_exponent, size_limit, level_cap, count_room}
 use Rattle.geometry.specs.Geometry.{ceil_div, halved, extent, count_at, count_in, bricks_at, bricks_in, levels, bricks, alphas, Small, Sizes}
 use Rattle.geometry.specs.Laws.{AllowedSize, LastLevel, LevelsCover, OneCount, HalvingRule}
@@ -124,7 +125,7 @@ module _ (a b c : ℕ) (la : 1 ≤ a) (lb : 1 ≤ b) (lc : 1 ≤ c) (small : Sma
       above-one : (l : ℕ) → l < levels a b c - 1 → 1 < bricks_at a b c l
       above-one l h =
           ⊎_elim
-          (λ (e : 1 ≡ bricks_at a b c l). clash (single l) (eq-eqb (bricks_at a b c l) 1 (sym e)) (first_before single level_cap l (omega arith)))
+          (λ (e : 1 ≡ bricks_at a b c l). absurd (both_ways (single l) (first_before single level_cap l (omega arith)) (eq-eqb (bricks_at a b c l) 1 (sym e))))
           (λ (g : 1 < bricks_at a b c l). g)
           (eq-or-lt_of_le (one-le-mul (one-le-mul (half_pos a l la) (half_pos b l lb)) (half_pos c l lc)))
 

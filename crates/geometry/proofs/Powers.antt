@@ -7,6 +7,7 @@ use native.Mathlib.Omega.{arith}
 use lib.Count.{count_trailing_zeros}
 use lib.Dec.{eqb}
 use borrow.Author.Tests.{eqb-true, eq-eqb}
+use Rattle.std.proofs.lemmas.Bool.{or_right}
 use Rattle.geometry.specs.Limits.{greatest_exponent, power_from, power_in, IsPower}
 
 -- ---- the test, and the exponent
@@ -19,10 +20,6 @@ from-power a (suc k) n t = go (eqb n (2 ^ a)) refl t (from-power (a + 1) k n)
         → (e : ℕ) × (a ≤ e) × (e ≤ a + suc k) × (n ≡ 2 ^ e)
     go true q t later = (a, omega arith, omega arith, eqb-true n (2 ^ a) q)
     go false q t later = let r = later t in (r.0, omega (arith, r.1), omega (arith, r.2), r.3)
-
-or_right : (a b : Bool) → b ≡ true → a || b ≡ true
-or_right true b t = refl
-or_right false b t = t
 
 power-from : (a k d n : ℕ) → d ≤ k → n ≡ 2 ^ (a + d) → power_from a k n ≡ true
 power-from a zero zero n h q = eq-eqb n (2 ^ a) (q ∙ ap (λ (e : ℕ). 2 ^ e) (omega arith))

@@ -1,4 +1,4 @@
--- `geometry::shape_of` meets its contract. The loop's invariant: no level before this one has one brick, and the sums are those of the levels before it. Assumes nothing.
+-- `Volume::shape` meets its contract. The loop's invariant: no level before this one has one brick, and the sums are those of the levels before it. Assumes nothing.
 use Prim.Native.Nat.{ℕ, ◌+◌, ◌*◌, ◌≤◌, ◌<◌}
 use mathlib.Core.Bool.{false}
 use mathlib.Core.List.{List}
@@ -9,8 +9,9 @@ use native.Mathlib.Omega.{arith}
 use lib.Dec.{eqb}
 use borrow.Author.Count.{below_more}
 use borrow.Author.Tests.{eq-eqb, ne_eqb}
+use Rattle.std.proofs.lemmas.Bool.{both_ways}
 use Rattle.endian.specs.Loops.{sum_to}
-use Rattle.endian.proofs.Search.{clash, sum-none, sum_more}
+use Rattle.endian.proofs.Search.{sum-none, sum_more}
 use Rattle.geometry.specs.Geometry.{bricks_in, alphas_in, shape_in, Sizes}
 use Rattle.geometry.specs.declared.Shape.{Shape}
 use Rattle.geometry.proofs.Levels.{top_level, tiles_room, bricks_room, levels_at, sizes_small, sizes_single, tiles_few, bricks-few, sum-most}
@@ -30,7 +31,7 @@ module _ {size side : List ℕ} (s : Sizes size side) where
     counted-few =
         elim (dec_le l top_level) [
           | yes g ↦ g
-          | no g ↦ clash _ (eq-eqb (bricks_in size side top_level) 1 (sizes_single s)) (h.many top_level (lt_of_not-le g))
+          | no g ↦ absurd (both_ways _ (h.many top_level (lt_of_not-le g)) (eq-eqb (bricks_in size side top_level) 1 (sizes_single s)))
         ]
 
     pub counted-small : (bricks + bricks_in size side l ≤ (top_level + 1) * bricks_room) × (alphas + alphas_in size side l ≤ (top_level + 1) * tiles_room)

@@ -61,7 +61,8 @@ pub fn power_in(least: u32, n: u32) -> bool
     (least..=GREATEST_EXPONENT).contains(&e) && n == 1 << e
 }
 
-// n / d, rounded up, for any divisor. Levels are counted by shifts (`ceil_shift`); this is the definition that they are proved equal to, as a function.
+// n / d, rounded up, for any divisor. Levels are counted by shifts (`ceil_shift`), and no code here calls this: it stays, with its edit `ceil_rounded_down`,
+// for what it promises, the definition that the shifts are proved equal to.
 pub fn ceil_div(n: u64, d: u64) -> u64
     requires { (0 < d) × (n + d ≤ 18446744073709551615) }
     ensures { result ≡ ceil_div n d }
@@ -78,13 +79,13 @@ fn ceil_shift(n: u64, k: u64) -> u64
     ((n - 1) >> k) + 1
 }
 
-// A level's extent in samples, in a direction of this size: size / 2^l, rounded up. The level's bound stands at each function that shifts by it:
-// it is one number, and levels are counted where they are not yet known.
+// A level's extent in samples, in a direction of this size: size / 2^l, rounded up. That the level is at most the cap stands at each function that
+// shifts by it, since loops over all levels up to the cap call them: a type of a level would only be built and taken apart there at each step.
 pub fn extent_at(size: u32, l: u64) -> u64
     requires { (1 ≤ size) × (l ≤ level_cap) }
     ensures { result ≡ extent size l }
 {
-    ceil_shift(size as u64, l)
+    ceil_shift(u64::from(size), l)
 }
 
 // A level's bricks in a direction of this size and brick side: size / (side x 2^l), rounded up. A side is a power of two, so this is
@@ -94,7 +95,7 @@ fn count_at(size: u32, side: u32, l: u64) -> u64
     requires { (1 ≤ size) × Power side × (l ≤ level_cap) }
     ensures { result ≡ count_at size side l }
 {
-    ceil_shift(size as u64, u64::trailing_zeros(side as u64) as u64 + l)
+    ceil_shift(u64::from(size), u64::from(side.trailing_zeros()) + l)
 }
 
 impl Volume {
@@ -169,7 +170,8 @@ pub fn entry_at(v: Level, i: u64, j: u64, k: u64) -> u64
     v.base + ((k * v.crossline + j) * v.inline + i)
 }
 
-// The bytes of a brick with these sides and items of w bytes.
+// The bytes of a brick with these sides and items of w bytes. The sides come one by one and 64 bits wide, as its definition takes them: the [u32; 3] that
+// callers have would ask more of a caller, and docs/ARCHITECTURE.md names the function.
 pub fn brick_bytes(s0: u64, s1: u64, s2: u64, w: u64) -> u64
     requires { (s0 ≤ side_room) × (s1 ≤ side_room) × (s2 ≤ side_room) × (w ≤ 4) }
     ensures { (result ≡ brick_bytes s0 s1 s2 w) × (result ≤ bytes_room) }
@@ -177,7 +179,7 @@ pub fn brick_bytes(s0: u64, s1: u64, s2: u64, w: u64) -> u64
     s0 * s1 * s2 * w
 }
 
-// Where the brick table starts: after the text, the histogram and the alpha table.
+// Where the brick table starts: after the text, the histogram and the alpha table. A cast, as `u64` has no From of a usize.
 pub fn table_start(text: u64, alpha: u64) -> u64
     requires { (text ≤ longest_text) × (alpha ≤ brick_room) }
     ensures { result ≡ table_start text alpha }
@@ -185,7 +187,8 @@ pub fn table_start(text: u64, alpha: u64) -> u64
     TEXT_START as u64 + text + 2064 + 8 * alpha
 }
 
-// The end of the headers, where the brick table ends.
+// The end of the headers, where the brick table ends. It takes the counts as numbers, as its definition does. docs/ARCHITECTURE.md names it, so it would
+// stay beside a method of `Shape`, which would only call it.
 pub fn header_end(text: u64, alpha: u64, brick: u64) -> u64
     requires { (text ≤ longest_text) × (alpha ≤ brick_room) × (brick ≤ brick_room) }
     ensures { result ≡ header_end text alpha brick }

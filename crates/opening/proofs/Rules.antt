@@ -10,6 +10,7 @@ use lib.Ieee.{binary32, of_bits, lt}
 use lib.ListN.{get_or, length, take, length-take, length-drop}
 use lib.Seq.{get_or-take}
 use borrow.Author.Tests.{eqb-true, eq-eqb, le-leb, ltb-false, le-ltb}
+use Rattle.std.proofs.lemmas.Bool.{and_parts, not-false, or_cases, or_right}
 use Rattle.record.proofs.Laws.{coding_each}
 use Rattle.geometry.specs.Limits.{size_limit, shortest_text, longest_text, text_start}
 use Rattle.endian.specs.Loops.{first}
@@ -25,7 +26,7 @@ use Rattle.record.specs.Header.{three_at, two_at, version_of, description_of, te
 use Rattle.record.specs.Record.{side_of, size_of, bricks_of, header_of, record_of}
 use Rattle.record.specs.declared.Description.{Description}
 use Rattle.checks.specs.Checks.{all3, side_ok, size_ok, brick_limit, zeros, breaks2, breaks3, breaks4, breaks5, breaks6, breaks7, breaks8, breaks9, breaks11}
-use Rattle.checks.proofs.Described.{passed, not-false, both, either, all3-each, each_of, side-exponent, side-is, size-range, described-is, described-few, described_text}
+use Rattle.checks.proofs.Described.{passed, all3-each, each_of, side-exponent, side-is, size-range, described-is, described-few, described_text}
 use Rattle.checks.proofs.Records.{Words, finites, record_fits_lem, fit_with}
 use Rattle.table.specs.Entries.{breaks12, breaks13, Derived}
 use Rattle.table.proofs.Search.{missed}
@@ -113,9 +114,9 @@ four (a ∷ b ∷ c ∷ d ∷ f) h = refl
 rule2_of : (f : List ℕ) → text_start ≤ length f → breaks2 f ≡ false → peek f 0 4 ≡ (86 ∷ 66 ∷ 83 ∷ 0 ∷ [])
 unfolding breaks2
 rule2_of f n e =
-    let a = both (eqb (get_or f 0 0) 86 && eqb (get_or f 1 0) 66 && eqb (get_or f 2 0) 83) (eqb (get_or f 3 0) 0) (not-false _ e) in
-    let b = both (eqb (get_or f 0 0) 86 && eqb (get_or f 1 0) 66) (eqb (get_or f 2 0) 83) a.0 in
-    let c = both (eqb (get_or f 0 0) 86) (eqb (get_or f 1 0) 66) b.0 in
+    let a = and_parts (eqb (get_or f 0 0) 86 && eqb (get_or f 1 0) 66 && eqb (get_or f 2 0) 83) (eqb (get_or f 3 0) 0) (not-false _ e) in
+    let b = and_parts (eqb (get_or f 0 0) 86 && eqb (get_or f 1 0) 66) (eqb (get_or f 2 0) 83) a.0 in
+    let c = and_parts (eqb (get_or f 0 0) 86) (eqb (get_or f 1 0) 66) b.0 in
     four f (omega arith) ∙ rw (eqb-true (get_or f 0 0) 86 c.0, eqb-true (get_or f 1 0) 66 c.1, eqb-true (get_or f 2 0) 83 b.1, eqb-true (get_or f 3 0) 0 a.1)
 
 rule2-is : (f : List ℕ) → peek f 0 4 ≡ (86 ∷ 66 ∷ 83 ∷ 0 ∷ []) → breaks2 f ≡ false
@@ -127,7 +128,7 @@ rule2-is f e = simp (eq-eqb _ _ (at 0 (omega arith)), eq-eqb _ _ (at 1 (omega ar
 
 rule3_of : (v : ℕ) → breaks3 v ≡ false → (v ≡ 2) ⊎ (v ≡ 3)
 unfolding breaks3
-rule3_of v e = ⊎_elim (λ (q : eqb v 2 ≡ true). inl (eqb-true v 2 q)) (λ (q : eqb v 3 ≡ true). inr (eqb-true v 3 q)) (either (eqb v 2) (eqb v 3) (not-false _ e))
+rule3_of v e = ⊎_elim (λ (q : eqb v 2 ≡ true). inl (eqb-true v 2 q)) (λ (q : eqb v 3 ≡ true). inr (eqb-true v 3 q)) (or_cases (eqb v 2) (eqb v 3) (not-false _ e))
 
 rule3-is : (v : ℕ) → (v ≡ 2) ⊎ (v ≡ 3) → breaks3 v ≡ false
 unfolding breaks3
@@ -141,10 +142,6 @@ range-is : (min max : ℕ) → CodingRange min max → range_ok min max ≡ true
 unfolding range_ok
 range-is min max r =
     simp (from_truth (finite_bits min) r.min-finite, from_truth (finite_bits max) r.max-finite, from_truth (lt (of_bits binary32 min) (of_bits binary32 max)) r.below)
-
-or_right : (a b : Bool) → b ≡ true → a || b ≡ true
-or_right true b e = refl
-or_right false b e = e
 
 module _ (d : Description) where
   rule4_of : breaks4 d ≡ false → (i : ℕ) → i < 3 → Side (side_of d i)
@@ -219,7 +216,7 @@ module _ (f : List ℕ) where
   unfolding breaks11
   rule11_of h e =
       let s = text_of f (text_length_of f) in
-      let a = both (eqb (zeros s) 5) (eqb (get_or s (length s - 1) 0) 0) (not-false _ e) in
+      let a = and_parts (eqb (zeros s) 5) (eqb (get_or s (length s - 1) 0) 0) (not-false _ e) in
       (eqb-true _ _ a.0, ap (λ (n : ℕ). get_or s (n - 1) 0) (sym (text_long h)) ∙ eqb-true _ _ a.1)
 
   rule11-is : header_of (description_of f) (text_length_of f) ≤ length f

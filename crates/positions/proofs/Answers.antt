@@ -8,6 +8,7 @@ use lib.Dec.{T}
 use lib.Ieee.{Float, nan}
 use lib.ListN.{get_or}
 use borrow.Author.Tests.{le-leb, lt-leb}
+use Rattle.std.proofs.lemmas.Bool.{and_parts}
 use Rattle.geometry.specs.Limits.{size_limit}
 use Rattle.floats.specs.Rules.{finite, finite_bits, same_bits}
 use Rattle.floats.specs.Position.{position_of, Near}
@@ -16,7 +17,7 @@ use Rattle.record.specs.Record.{size_of}
 use Rattle.record.specs.declared.Record.{Record}
 use Rattle.checks.specs.Checks.{all3}
 use Rattle.checks.specs.Fits.{same3, grid_fits, breaks14}
-use Rattle.checks.proofs.Described.{both, all3-each, each_of, described_sized}
+use Rattle.checks.proofs.Described.{all3-each, each_of, described_sized}
 use Rattle.checks.proofs.Records.{alone_fit, Fit, finites}
 use Rattle.std.specs.Prelude.{Result, Ok, Err}
 use Rattle.record.specs.declared.Refusal.{Refusal}
@@ -30,8 +31,8 @@ same-finite x b s f = (finite-fits x b f (same_float x b s)).0
 three-finite : (xs : List Float) (bs : List ℕ) → same3 xs bs ≡ true → all3 finite_bits bs ≡ true → (k : ℕ) → k < 3 → T (finite (get_or xs k nan))
 three-finite xs bs s f =
     let g = all3-each finite_bits bs f in
-    let p = both (same_bits (get_or xs 0 nan) (get_or bs 0 0) && same_bits (get_or xs 1 nan) (get_or bs 1 0)) (same_bits (get_or xs 2 nan) (get_or bs 2 0)) s in
-    let q = both (same_bits (get_or xs 0 nan) (get_or bs 0 0)) (same_bits (get_or xs 1 nan) (get_or bs 1 0)) p.0 in
+    let p = and_parts (same_bits (get_or xs 0 nan) (get_or bs 0 0) && same_bits (get_or xs 1 nan) (get_or bs 1 0)) (same_bits (get_or xs 2 nan) (get_or bs 2 0)) s in
+    let q = and_parts (same_bits (get_or xs 0 nan) (get_or bs 0 0)) (same_bits (get_or xs 1 nan) (get_or bs 1 0)) p.0 in
     each_of (λ k. T (finite (get_or xs k nan))) (same-finite _ _ q.0 g.0) (same-finite _ _ q.1 g.1) (same-finite _ _ p.1 g.2)
 
 -- what position asks of a record that passes check 14
@@ -45,9 +46,9 @@ module _ (r : Record) (e : breaks14 r ≡ false) where
       let d = r.description in
       let g = r.grid in
       let f = finites d passes.is-described.not7 in
-      let a = both _ _ passes.grid_ok in
-      let b = both _ _ a.0 in
-      let c = both (same3 g.orig d.orig) (same3 g.inc d.inc) b.0 in
+      let a = and_parts _ _ passes.grid_ok in
+      let b = and_parts _ _ a.0 in
+      let c = and_parts (same3 g.orig d.orig) (same3 g.inc d.inc) b.0 in
       (three-finite g.orig d.orig c.0 f.origs k h, three-finite g.inc d.inc c.1 f.incs k h)
 
   pub index-small : (k i : ℕ) → k < 3 → i < size_of r.description k → i < size_limit

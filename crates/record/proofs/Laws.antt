@@ -3,7 +3,7 @@ use mathlib.Core.Bool.{Bool, true, false, cond}
 use Prim.Native.Nat.{ℕ, ◌+◌, ◌-◌, ◌*◌, ◌^◌, ◌≤◌, ◌<◌}
 use mathlib.Core.List.{List}
 use mathlib.Core.Logic.{◌⊎◌, inl, inr, ⊎_elim}
-use mathlib.Core.Path.{◌≡◌, refl}
+use mathlib.Core.Path.{◌≡◌, refl, ap, ◌∙◌}
 use native.Mathlib.Nat.{add-sub_cancel_left}
 use native.Mathlib.Omega.{arith}
 use lib.Dec.{eqb}
@@ -11,6 +11,7 @@ use lib.ListN.{take, drop}
 use borrow.Author.Tests.{eqb-true}
 use Rattle.geometry.specs.Limits.{text_start, level_cap}
 use Rattle.geometry.specs.Geometry.{Small, shape_of}
+use Rattle.geometry.specs.declared.Shape.{Shape}
 use Rattle.geometry.proofs.Levels.{ceil_pos, levels-le, alphas-le, sizes_small}
 use Rattle.record.specs.Header.{text_of}
 use Rattle.record.specs.Types.{coding_of, item_width, width_of}
@@ -65,6 +66,19 @@ shape-bricks d = refl
 pub shape-alphas : (d : Description) → (shape_of (count_of d 0) (count_of d 1) (count_of d 2)).alphas ≡ alphas_of d
 unfolding alphas_of
 shape-alphas d = refl
+
+-- and of a shape that was worked out from them
+pub record Shaped (d : Description) (s : Shape) : Type 0 where
+  pub levels-are : s.levels ≡ levels_of d
+  pub bricks-are : s.bricks ≡ bricks_of d
+  pub alphas-are : s.alphas ≡ alphas_of d
+
+pub shaped : (d : Description) {s : Shape} → s ≡ shape_of (count_of d 0) (count_of d 1) (count_of d 2) → Shaped d s
+shaped d e = record {
+  levels-are = ap (λ (s : Shape). s.levels) e ∙ shape-levels d;
+  bricks-are = ap (λ (s : Shape). s.bricks) e ∙ shape-bricks d;
+  alphas-are = ap (λ (s : Shape). s.alphas) e ∙ shape-alphas d;
+}
 
 -- the integer types, and the numbers of their items
 module _ (k w h : ℕ) where

@@ -109,7 +109,7 @@ pub enum Coding {
 
 // What a cube is made from: the header's fields but version and text length, floats and factors as bits.
 #[repr(C)]
-#[derive(Clone, Copy)]
+#[derive(Clone, Copy, Default)]
 pub struct Description {
     pub side: [u32; 3],
     pub datatype: u8,
@@ -129,7 +129,7 @@ pub struct Description {
 
 // Orig, inc and coding range as floats; the range of type 6 is 0, 0.
 #[repr(C)]
-#[derive(Clone, Copy)]
+#[derive(Clone, Copy, Default)]
 pub struct Grid {
     pub orig: [f32; 3],
     pub inc: [f32; 3],
@@ -139,7 +139,7 @@ pub struct Grid {
 
 // What opening says of a cube. Header is where the headers end; length is the file's.
 #[repr(C)]
-#[derive(Clone, Copy)]
+#[derive(Clone, Copy, Default)]
 pub struct Record {
     pub version: u32,
     pub description: Description,
@@ -177,13 +177,13 @@ pub fn width_of(datatype: u8) -> u32
     ensures { result ≡ width_of datatype }
 {
     match coding_of(datatype) {
-        Ok(Coding::Scaled { width, half: _ }) => width,
-        Ok(Coding::Float32 { width }) => width,
+        Ok(Coding::Scaled { width, .. } | Coding::Float32 { width }) => width,
         Err(_) => 0,
     }
 }
 
-// Three numbers of 32 bits, and two. Each is its list, as the header's fields are read nowhere in a loop.
+// Three numbers of 32 bits, and two: each is its definition's list. One function over their number would be no plainer, since it would need a definition
+// over that number and a law for each of the two.
 fn three_at(file: &[u8], at: usize) -> [u32; 3]
     requires { at + 12 ≤ length file.now }
     ensures { result ≡ three_at file.now at }
@@ -249,15 +249,19 @@ pub fn description_at(file: &[u8]) -> Description
 fn floats_of(bits: [u32; 3]) -> [f32; 3]
     ensures { result ≡ floats_of bits }
 {
-    [float_of(bits[0]), float_of(bits[1]), float_of(bits[2])]
+    bits.map(float_of)
 }
 
 // The bits of an end of the coding range that the grid keeps: 0 for type 6, which has no coding range. The grid goes to C as it
 // stands, so no range is zeros there and not an Option.
+#[tactic(auto, unfolding(crate::specs::Types::coding_of))]
 pub fn bound_of(datatype: u8, bits: u32) -> u32
     ensures { result ≡ bound_of datatype bits }
 {
-    if datatype == 6 { 0 } else { bits }
+    match coding_of(datatype) {
+        Ok(Coding::Float32 { .. }) => 0,
+        Ok(Coding::Scaled { .. }) | Err(_) => bits,
+    }
 }
 
 pub fn grid_of(d: Description) -> Grid
@@ -282,21 +286,21 @@ pub fn shape_in(d: Description) -> Shape
     Volume { size, side }.shape()
 }
 
-// Conversions are casts where a clause of what is called, here or in `geometry`, bounds the number: it is then the field itself that is bounded, and
-// not an answer of `from`.
+// The bytes of a brick with these sides and this type.
 pub fn brick_bytes_in(d: Description) -> u64
     requires { Sized d }
     ensures { (result ≡ brick_bytes_of d) × (result ≤ bytes_room) }
 {
     brick_bytes(
-        d.side[0] as u64,
-        d.side[1] as u64,
-        d.side[2] as u64,
-        width_of(d.datatype) as u64,
+        u64::from(d.side[0]),
+        u64::from(d.side[1]),
+        u64::from(d.side[2]),
+        u64::from(width_of(d.datatype)),
     )
 }
 
-// The record of a cube with this description, a text of text bytes and length bytes in all.
+// The record of a cube with this description, a text of text bytes and length bytes in all. Its three counts are casts: u32 has no From of a u64, and
+// TryFrom would answer an error that cannot be, as each count is proved to fit.
 pub fn record_of(version: u32, d: Description, text: u32, length: u64) -> Record
     requires { Sized d × (bricks_of d ≤ brick_room) × (text ≤ longest_text) }
     ensures { result ≡ record_of version d text length }
@@ -308,7 +312,7 @@ pub fn record_of(version: u32, d: Description, text: u32, length: u64) -> Record
         description: d,
         text,
         grid,
-        header: header_end(text as u64, shape.alphas, shape.bricks),
+        header: header_end(u64::from(text), shape.alphas, shape.bricks),
         levels: shape.levels as u32,
         bricks: shape.bricks as u32,
         alphas: shape.alphas as u32,
@@ -316,41 +320,9 @@ pub fn record_of(version: u32, d: Description, text: u32, length: u64) -> Record
     }
 }
 
-// The record that C gets beside a refusal: all zeros, each written out as the definition has it.
+// The record that C gets beside a refusal: all zeros.
 pub fn no_record() -> Record
     ensures { result ≡ no_record }
 {
-    let description = Description {
-        side: [0; 3],
-        datatype: 0,
-        range: [0; 2],
-        dataid: [0; 16],
-        verid: [0; 16],
-        previd: [0; 16],
-        srctype: 0,
-        orig: [0; 3],
-        inc: [0; 3],
-        size: [0; 3],
-        hdim: 0,
-        hfactor: 0,
-        vdim: 0,
-        vfactor: 0,
-    };
-    let grid = Grid {
-        orig: [0.0; 3],
-        inc: [0.0; 3],
-        min: 0.0,
-        max: 0.0,
-    };
-    Record {
-        version: 0,
-        description,
-        text: 0,
-        grid,
-        header: 0,
-        levels: 0,
-        bricks: 0,
-        alphas: 0,
-        length: 0,
-    }
+    Record::default()
 }

@@ -11,13 +11,13 @@ use lib.ListN.{length, take, drop, length-drop, take-append-drop}
 use lib.Seq.{length-take-le, take_all, take-add, drop-drop, drop_at, take-append-le, drop-append-le}
 use borrow.Author.Tests.{lt-ltb, le-leb}
 use borrow.Rule.Slice.PartMut.{put_mid, mid_len, same_len_mid, drop_put}
+use Rattle.std.proofs.lemmas.Bool.{and_parts}
 use Rattle.cube.proofs.Writes.{between-true}
 use Rattle.endian.specs.Loops.{cat, tri}
 use Rattle.endian.proofs.Digits.{tri_inj, next_item}
 use Rattle.endian.proofs.Cats.{cat-same, length-cat, cat-cat, cat_part}
 use Rattle.record.specs.Record.{side_of}
 use Rattle.record.specs.declared.Record.{Record}
-use Rattle.checks.proofs.Described.{both}
 use Rattle.checks.proofs.Records.{Fit}
 use Rattle.table.proofs.Search.{is_false}
 use Rattle.cube.specs.declared.Region.{Region}
@@ -152,8 +152,8 @@ within_box i ni j nj k nk x y z h = rw (between-yes i ni x h.from0 h.to0, betwee
 
 box_within : (i ni j nj k nk x y z : ℕ) → in_box i ni j nj k nk x y z ≡ true → Within i ni j nj k nk x y z
 box_within i ni j nj k nk x y z e =
-    let p = both (between i ni x) _ e in
-    let q = both (between j nj y) _ p.1 in
+    let p = and_parts (between i ni x) _ e in
+    let q = and_parts (between j nj y) _ p.1 in
     let u = between-true i ni x p.0 in
     let v = between-true j nj y q.0 in
     let o = between-true k nk z q.1 in

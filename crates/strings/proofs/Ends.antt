@@ -11,8 +11,7 @@ use borrow.Author.Tests.{eqb-true, ltb-false}
 use Rattle.std.proofs.Common.{Option, Some, None}
 use Rattle.std.specs.List.{position}
 use Rattle.std.proofs.lemmas.List.Sums.{prefix_len-le-length, prefix_len_passes, prefix_len_stops}
-use Rattle.std.proofs.lemmas.Bool.{false≢true}
-use Rattle.checks.proofs.Described.{not-false}
+use Rattle.std.proofs.lemmas.Bool.{false≢true, not-false}
 use Rattle.strings.specs.Strings.{index_of, end_of}
 
 index-le : (l : List ℕ) → index_of 0 l ≤ length l

@@ -12,10 +12,10 @@ use lib.Dec.{eqb}
 use lib.ListN.{get_or, length, take, drop, length-take, take-append-drop, drop_of_length-le}
 use lib.Seq.{drop-cons, drop-drop, get_or-take, get_or-drop}
 use borrow.Author.Tests.{eqb-true}
+use Rattle.std.proofs.lemmas.Bool.{and_parts, not-false}
 use Rattle.endian.specs.Loops.{sum_to}
 use Rattle.endian.proofs.Search.{sum_part}
 use Rattle.checks.specs.Checks.{zeros, breaks11}
-use Rattle.checks.proofs.Described.{both, not-false}
 use Rattle.checks.proofs.Texts.{zeros_to, zero_more, other-more}
 use Rattle.strings.specs.Strings.{end_of, string_at, turn_of, place_from, place_of, strings_from, strings_of, item}
 use Rattle.strings.specs.Five.{nth, Five}
@@ -150,5 +150,5 @@ module _ (t : List ℕ) (count : zeros_to t (length t) ≡ 5) (last : get_or t (
 pub text_five : (t : List ℕ) → breaks11 t ≡ false → Five t
 unfolding breaks11 zeros
 text_five t e =
-    let p = both _ _ (not-false _ e) in
+    let p = and_parts _ _ (not-false _ e) in
     five t (eqb-true _ _ p.0) (eqb-true _ _ p.1)

@@ -5,7 +5,7 @@ use mathlib.Core.List.{List}
 use Prim.Native.Nat.{ℕ, ◌≤◌}
 use lib.Dec.{ltb}
 use borrow.Author.Tests.{ltb-false}
-use Rattle.endian.proofs.Search.{clash}
+use Rattle.std.proofs.lemmas.Bool.{both_ways}
 use Rattle.subtiles.specs.Subtiles.{breaks20}
 use Rattle.subtiles.specs.Answers.{bytes_in, breaks18, permute_answer, buffer_after}
 use Rattle.record.specs.Answers.{Done}
@@ -35,5 +35,5 @@ pub long-enough : (n from into : ℕ) → breaks18 n from into ≡ false → (n 
 long-enough n from into e = go (ltb from n) (ltb into n) refl refl e
   where
     go : (a b : Bool) → ltb from n ≡ a → ltb into n ≡ b → (a || b) ≡ false → (n ≤ from) × (n ≤ into)
-    go true b p q r = clash true refl r
+    go true b p q r = absurd (both_ways true r refl)
     go false b p q r = (ltb-false from n p, ltb-false into n (q ∙ r))

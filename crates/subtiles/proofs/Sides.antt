@@ -10,7 +10,7 @@ use lib.Dec.{eqb, lit≤}
 use lib.ListN.{get_or}
 use lib.Pow.{pow-add}
 use borrow.Author.Tests.{eqb-true, not-false}
-use Rattle.endian.proofs.Search.{both, either}
+use Rattle.std.proofs.lemmas.Bool.{and_parts, or_cases}
 use Rattle.geometry.specs.Limits.{least_exponent, greatest_exponent, power_in, side_room}
 use Rattle.geometry.proofs.Powers.{power_of}
 use Rattle.subtiles.specs.Subtiles.{tile_exponent, breaks20}
@@ -47,9 +47,9 @@ pub record Sides (n0 n1 n2 w : ℕ) : Type 0 where
 pub sides : (side : List ℕ) (w : ℕ) → breaks20 side w ≡ false → Sides (get_or side 0 0) (get_or side 1 0) (get_or side 2 0) w
 unfolding breaks20
 sides side w e =
-    let all = both _ _ (not-false _ e) in
-    let three = both _ _ all.0 in
-    let two = both _ _ three.0 in
+    let all = and_parts _ _ (not-false _ e) in
+    let three = and_parts _ _ all.0 in
+    let two = and_parts _ _ three.0 in
     let third = side-range least_exponent (get_or side 2 0) (lit≤ tt) three.1 in
     let width = bytes all.1 in
     record { inline = tiled _ two.0; crossline = tiled _ two.1; vertical = third.1; deep = third.0; item = width.1; wide = width.0 }
@@ -57,6 +57,6 @@ sides side w e =
     bytes : (eqb w 1 || eqb w 2 || eqb w 4) ≡ true → (1 ≤ w) × (w ≤ 4)
     bytes p =
         ⊎_elim
-        (λ (q : (eqb w 1 || eqb w 2) ≡ true). ⊎_elim (λ (o : eqb w 1 ≡ true). omega (arith, eqb-true w 1 o)) (λ (o : eqb w 2 ≡ true). omega (arith, eqb-true w 2 o)) (either _ _ q))
+        (λ (q : (eqb w 1 || eqb w 2) ≡ true). ⊎_elim (λ (o : eqb w 1 ≡ true). omega (arith, eqb-true w 1 o)) (λ (o : eqb w 2 ≡ true). omega (arith, eqb-true w 2 o)) (or_cases _ _ q))
         (λ (q : eqb w 4 ≡ true). omega (arith, eqb-true w 4 q))
-        (either _ _ p)
+        (or_cases _ _ p)

@@ -3,7 +3,6 @@ use Rattle.std.specs.Bool.{⊤, MatchBool, then_some}
 use Rattle.std.specs.Option.{MatchOption, unwrap_or, option_or}
 use Rattle.std.specs.List.{AllWithin, HoldsAt}
 use Rattle.std.proofs.lemmas.List.{get_or-take, get_or-drop, length-take, length-drop}
-use Rattle.endian.proofs.Search.{clash}
 use Rattle.std.proofs.Common.{Option, Some, None}
 use mathlib.Core.Path.{◌≡◌, refl, sym, ap, ◌∙◌}
 use mathlib.Core.Logic.{◌⊎◌, inl, inr, ⊎_elim}
@@ -18,6 +17,7 @@ use lib.ListN.{length, get_or, take, drop, set, replicate, length-set, length-re
 use lib.Seq.{get_or-set_same, get_or-set_other}
 use borrow.Author.Tests.{ltb-true, ltb-false}
 use borrow.Author.Count.{below_more}
+use Rattle.std.proofs.lemmas.Bool.{both_ways}
 use Rattle.table.specs.declared.Table.{Table}
 use Rattle.table.specs.Entries.{outside_at, lowest}
 use Rattle.table.proofs.Search.{lowest_none}
@@ -120,10 +120,10 @@ touched cells c b o r low size = by r
 
     by : (r : Bool) → MatchBool r ((k : ℕ) × (k < length three) × HoldsAt (λ v. Near b v o) three k) (AllWithin (λ v. Near b v o → ⊥) three 0 (length three))
         → Touched cells c b o r
-    by true h = record { found = λ e. (c + h.0, rw (← at h.0 (omega (arith, h.1, long))) (h.2 0)); none = λ e. clash true refl e }
+    by true h = record { found = λ e. (c + h.0, rw (← at h.0 (omega (arith, h.1, long))) (h.2 0)); none = λ e. absurd (both_ways true e refl) }
     by false h =
         record {
-          found = λ e. clash false e refl;
+          found = λ e. absurd (both_ways false refl e);
           none = λ e s l g n. let q : c + (s - c) ≡ s = omega arith in h (s - c) 0 (omega arith) (omega (arith, long)) (rw (at (s - c) (omega arith), q) n);
         }
 

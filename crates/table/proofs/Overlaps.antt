@@ -15,9 +15,9 @@ use native.Mathlib.Decide.{dec_le}
 use native.Mathlib.Omega.{arith}
 use lib.Dec.{ltb}
 use borrow.Author.Tests.{ltb-true, ltb-false, lt-ltb, le-ltb}
-use Rattle.checks.proofs.Described.{both}
+use Rattle.std.proofs.lemmas.Bool.{and_parts, both_ways}
 use Rattle.endian.specs.Loops.{first, first_from}
-use Rattle.endian.proofs.Search.{clash, first-is, first-le, first_before}
+use Rattle.endian.proofs.Search.{first-is, first-le, first_before}
 use Rattle.table.specs.declared.Kind.{Kind}
 use Rattle.table.specs.declared.Kind.TheVariants.{Missing, Constant, Stored}
 use Rattle.table.specs.declared.Table.{Table}
@@ -30,7 +30,7 @@ apart_false : (b o p : ℕ) → (o + b ≤ p) ⊎ (p + b ≤ o) → overlap b (S
 unfolding overlap
 apart_false b o p h =
     is_false (ltb o (p + b) && ltb p (o + b)) (λ e.
-    let q = both (ltb o (p + b)) (ltb p (o + b)) e in
+    let q = and_parts (ltb o (p + b)) (ltb p (o + b)) e in
     ⊎_elim (λ (g : o + b ≤ p). omega (arith, ltb-true p (o + b) q.1)) (λ (g : p + b ≤ o). omega (arith, ltb-true o (p + b) q.0)) h)
 
 near_true : (b o p : ℕ) → o < p + b → p < o + b → overlap b (Stored o) (Stored p) ≡ true
@@ -39,7 +39,7 @@ near_true b o p g h = simp (lt-ltb o (p + b) g, lt-ltb p (o + b) h)
 
 false_apart : (b o p : ℕ) → overlap b (Stored o) (Stored p) ≡ false → (o + b ≤ p) ⊎ (p + b ≤ o)
 false_apart b o p e =
-    elim (dec_le (o + b) p) [ yes g ↦ inl g | no g ↦ elim (dec_le (p + b) o) [ yes h ↦ inr h | no h ↦ clash (overlap b (Stored o) (Stored p)) (near_true b o p (omega arith) (omega arith)) e ] ]
+    elim (dec_le (o + b) p) [ yes g ↦ inl g | no g ↦ elim (dec_le (p + b) o) [ yes h ↦ inr h | no h ↦ absurd (both_ways (overlap b (Stored o) (Stored p)) e (near_true b o p (omega arith) (omega arith))) ] ]
 
 any_list : (p : ℕ → Bool) (n a m : ℕ) → m ≡ a + n → list_any p (range_with_len a n) ≡ ltb (first_from p a n) m
 unfolding first_from
@@ -82,7 +82,7 @@ module _ (b : ℕ) (kinds : ℕ → Kind) where
   pub lower_yes : (e l : ℕ) → l < e → overlap b (kinds l) (kinds e) ≡ true → overlaps_lower b kinds e ≡ true
   unfolding overlaps_lower
   lower_yes e l g yes-l =
-      ⊎_elim (λ (q : first p e ≡ e). clash (p l) yes-l (first_before p e l (rw q g))) (λ (q : first p e < e). lt-ltb (first p e) e q) (eq-or-lt_of_le (first-le p e))
+      ⊎_elim (λ (q : first p e ≡ e). absurd (both_ways (p l) (first_before p e l (rw q g)) yes-l)) (λ (q : first p e < e). lt-ltb (first p e) e q) (eq-or-lt_of_le (first-le p e))
     where
       p : ℕ → Bool
       p l = overlap b (kinds l) (kinds e)
@@ -128,19 +128,19 @@ near_test b (Stored o) (Stored p) n = near_true b o p n.below n.above
 
 near_fact : (b : ℕ) (k l : Kind) → ((o : ℕ) → k ≡ Stored o → 0 < o) → ((o : ℕ) → l ≡ Stored o → 0 < o) → overlap b k l ≡ true → Near b (offset_in k) (offset_in l)
 unfolding overlap
-near_fact b Missing l f g e = clash false e refl
-near_fact b (Constant v) l f g e = clash false e refl
-near_fact b (Stored o) Missing f g e = clash false e refl
-near_fact b (Stored o) (Constant v) f g e = clash false e refl
+near_fact b Missing l f g e = absurd (both_ways false refl e)
+near_fact b (Constant v) l f g e = absurd (both_ways false refl e)
+near_fact b (Stored o) Missing f g e = absurd (both_ways false refl e)
+near_fact b (Stored o) (Constant v) f g e = absurd (both_ways false refl e)
 near_fact b (Stored o) (Stored p) f g e =
-    let q = both (ltb o (p + b)) (ltb p (o + b)) e in
+    let q = and_parts (ltb o (p + b)) (ltb p (o + b)) e in
     record { left = f o refl; right = g p refl; below = ltb-true o (p + b) q.0; above = ltb-true p (o + b) q.1 }
 
 pub near_yes : (b v o : ℕ) → (v ≡ 0 → ⊥) → 0 < o → overlap b (Stored v) (Stored o) ≡ true → Near b v o
 near_yes b v o p q = near_fact b (Stored v) (Stored o) (λ x e. omega (arith, same_offset v x e)) (λ x e. omega (arith, same_offset o x e))
 
 pub near_not : (b v o : ℕ) → overlap b (Stored v) (Stored o) ≡ false → Near b v o → ⊥
-near_not b v o e n = clash _ (near_test b (Stored v) (Stored o) n) e
+near_not b v o e n = absurd (both_ways _ e (near_test b (Stored v) (Stored o) n))
 
 -- check 13 over the table's offsets
 module _ (t : Table) (f : List ℕ) where

@@ -7,9 +7,9 @@ use native.Mathlib.Omega.{arith}
 use lib.Dec.{leb, ltb}
 use lib.ListN.{length}
 use borrow.Author.Tests.{leb-true, le-leb, not-false}
+use Rattle.std.proofs.lemmas.Bool.{and_parts}
 use Rattle.std.specs.Option.{MatchOption}
 use Rattle.std.proofs.lemmas.Bool.Decides.{nat_tests}
-use Rattle.checks.proofs.Described.{both}
 use Rattle.table.specs.declared.Kind.{Kind}
 use Rattle.table.specs.declared.Kind.TheVariants.{Missing, Constant, Stored}
 use Rattle.table.specs.declared.Table.{Table}
@@ -18,7 +18,7 @@ use Rattle.table.specs.Entries.{stored_in, out_of_range, kind_at, outside_at}
 fits : (h b n o : ℕ) → out_of_range h b n (Stored o) ≡ false → (h ≤ o) × (o + b ≤ n)
 unfolding out_of_range
 fits h b n o e =
-    let p = both (leb h o) (leb (o + b) n) (not-false (leb h o && leb (o + b) n) e) in
+    let p = and_parts (leb h o) (leb (o + b) n) (not-false (leb h o && leb (o + b) n) e) in
     (leb-true h o p.0, leb-true (o + b) n p.1)
 
 not_out : (h b n : ℕ) (k : Kind) → ((o : ℕ) → k ≡ Stored o → (h ≤ o) × (o + b ≤ n)) → out_of_range h b n k ≡ false

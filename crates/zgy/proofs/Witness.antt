@@ -13,6 +13,7 @@ use lib.Ieee.{Float, binary64, of_bits, to_bits, fits, is_nan, lt, add, sub, mul
 use lib.IntN.{ℤ, pos, neg_ℤ}
 use lib.ListN.{replicate}
 use borrow.Author.Tests.{ltb-true}
+use Rattle.std.proofs.lemmas.Bool.{and_parts}
 use Rattle.endian.specs.Bytes.{Bytes, le, lows}
 use Rattle.endian.specs.Loops.{cat, up, first_from, sum_to}
 use Rattle.geometry.specs.Geometry.{halved, level_base, entry_of}
@@ -23,7 +24,6 @@ use Rattle.record.specs.Record.{levels_of, bricks_of, alphas_of, brick_bytes_of,
 use Rattle.record.specs.declared.Record.{Record}
 use Rattle.checks.specs.Checks.{breaks2, breaks3, side_ok, breaks4, breaks5, size_ok, breaks6, breaks7, breaks8, breaks9, zeros, breaks11, described}
 use Rattle.checks.specs.Fits.{grid_fits, numbers_fit, record_fits, breaks14_with}
-use Rattle.checks.proofs.Described.{both}
 use Rattle.table.specs.Entries.{kind_of, word_at, kind_at, out_of_range, outside_at, overlap, overlaps_lower, overlaps_at, table_in, kind_in, breaks12, breaks13}
 use Rattle.opening.specs.Opening.{length_verdict, text_verdict, range_verdict, overlap_verdict, entries_verdict, body_verdict, header_verdict, open_verdict, record_in}
 use Rattle.cube.specs.declared.Region.{Region}
@@ -64,8 +64,8 @@ bytes_only (x ∷ xs) = ltb x 256 && bytes_only xs
 only_bytes : (l : List ℕ) → bytes_only l ≡ true → Bytes l
 unfolding bytes_only
 only_bytes [] e i = omega arith
-only_bytes (x ∷ xs) e zero = ltb-true x 256 (both (ltb x 256) (bytes_only xs) e).0
-only_bytes (x ∷ xs) e (suc i) = only_bytes xs (both (ltb x 256) (bytes_only xs) e).1 i
+only_bytes (x ∷ xs) e zero = ltb-true x 256 (and_parts (ltb x 256) (bytes_only xs) e).0
+only_bytes (x ∷ xs) e (suc i) = only_bytes xs (and_parts (ltb x 256) (bytes_only xs) e).1 i
 
 pub cube-bytes : Bytes cube
 unfolding cube cat bytes_only

@@ -1,6 +1,4 @@
-use mathlib.Core.Bool.{false}
-use mathlib.Core.Path.{◌≡◌, sym, ◌∙◌}
-use Rattle.checks.specs.Checks.{breaks4, breaks6}
+use mathlib.Core.Path.{sym, ◌∙◌}
 use Rattle.checks.proofs.Described.{sized}
 use Rattle.checks.proofs.check_description.Goals as goal
 

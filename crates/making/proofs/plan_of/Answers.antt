@@ -1,25 +1,22 @@
 -- The numbers of a plan, and that none of them wraps.
-use mathlib.Core.Path.{◌≡◌, ap, ◌∙◌}
+use mathlib.Core.Path.{◌≡◌}
 use Prim.Native.Nat.{ℕ, ◌-◌, ◌%◌}
 use native.Mathlib.Nat.{mod-lt}
 use native.Mathlib.Omega.{arith}
 use Rattle.geometry.specs.Geometry.{header_end, shape_of}
 use Rattle.geometry.specs.declared.Shape.{Shape}
-use Rattle.record.specs.Record.{count_of, bricks_of, alphas_of, brick_bytes_of}
+use Rattle.record.specs.Record.{count_of, brick_bytes_of}
 use Rattle.record.specs.declared.Description.{Description}
 use Rattle.record.specs.Answers.{Taken}
-use Rattle.record.proofs.Laws.{shape-bricks, shape-alphas}
+use Rattle.record.proofs.Laws.{shaped}
 use Rattle.checks.specs.Checks.{described}
 use Rattle.checks.proofs.Described.{described-all, described_sized}
 use Rattle.making.proofs.Sizes.{text_few, bricks-few, alphas-le-bricks, next_multiple, all-bytes, Numbers, numbers, plan_constant, plan_stored}
 use Rattle.making.proofs.plan_of.Goals as goal
 
-shaped : (d : Description) {s : Shape} → s ≡ shape_of (count_of d 0) (count_of d 1) (count_of d 2) → (s.alphas ≡ alphas_of d) × (s.bricks ≡ bricks_of d)
-shaped d e = (ap (λ (s : Shape). s.alphas) e ∙ shape-alphas d, ap (λ (s : Shape). s.bricks) e ∙ shape-bricks d)
-
 planned : (d : Description) (t : ℕ) → described d t ≡ Taken → {s : Shape} {h b : ℕ} → s ≡ shape_of (count_of d 0) (count_of d 1) (count_of d 2)
     → h ≡ header_end t s.alphas s.bricks → b ≡ brick_bytes_of d → Numbers d t s.alphas s.bricks h b
-planned d t taken e eh eb = let p = shaped d e in numbers d t taken _ _ _ _ p.0 p.1 eh eb
+planned d t taken e eh eb = let p = shaped d e in numbers d t taken _ _ _ _ p.alphas-are p.bricks-are eh eb
 
 pub shape_in-shape-requires : goal.shape_in-shape-requires
 shape_in-shape-requires c = described_sized _ _ (described-all _ _ c.requires)

@@ -7,4 +7,4 @@ pub returns : goal.returns
 unfolding integer_of
 returns c =
     let back : to_z w32 (of_z w32 c.signed.result) ≡ c.signed.result = search rules in
-    ap (λ (z : ℤ). of_int binary64 z) (back ∙ c.signed.ensures)
+    c.from.ensures ∙ ap (λ (z : ℤ). of_int binary64 z) (back ∙ c.signed.ensures)
