@@ -4,7 +4,7 @@ use mathlib.Core.Path.{◌≡◌, refl, sym, ap, subst, ◌∙◌}
 use mathlib.Core.Logic.{inl, inr}
 use mathlib.Core.List.{List, ◌++◌}
 use native.Mathlib.Omega.{arith}
-use native.Mathlib.Nat.{suc-mul, zero-mul, lt_of_mul-lt-mul_right, le_of_mul-le-mul_right, mul-pos, mul-div_cancel_left, mul_assoc, add-mul, le_trans, mul-le-mul_right}
+use native.Mathlib.Nat.{add-sub_cancel_left, suc-mul, zero-mul, lt_of_mul-lt-mul_right, le_of_mul-le-mul_right, mul-pos, mul-div_cancel_left, mul_assoc, add-mul, le_trans, mul-le-mul_right}
 use native.Mathlib.Numerals.{add-one}
 use lib.ListN.{length, take, drop, length-append, length-drop}
 use lib.Seq.{drop-drop, take_at, drop_at}
@@ -62,13 +62,10 @@ module _ (r : Record) (f : List ℕ) (g : Region) (q : Lattice) (h : Writable r 
 
       -- the part of a turn, what it asks of the file, and what it leaves
       abbrev part : List ℕ
-      part = peek d (k * w) ((k + c) * w - k * w)
-
-      long : (k + c) * w - k * w ≡ c * w
-      long = omega (arith, add-mul k c w)
+      part = peek d (k * w) (k * w + c * w - k * w)
 
       part_is : part ≡ peek d (k * w) (c * w)
-      part_is = ap (peek d (k * w)) long
+      part_is = ap (peek d (k * w)) (add-sub_cancel_left (k * w) (c * w))
 
       pub turn-fits : o + m * w + length part ≤ length f
       turn-fits =
@@ -104,10 +101,10 @@ module _ {r : Record} {f₀ : List ℕ} {g : Region} {q : Lattice} (h : Writable
     turn_within = omega (arith, turn_step.left, (counts r f₀ g q h.ready).2)
 
     -- the bytes of a turn lie in the run, of which d has the bytes
-    pub turn_part : {w : ℕ} → w ≡ q.width → (d : List ℕ) → length d ≡ run_bytes r g → (k * w ≤ (k + c) * w) × ((k + c) * w ≤ length d)
+    pub turn_part : {w : ℕ} → w ≡ q.width → (d : List ℕ) → length d ≡ run_bytes r g → k * w + c * w ≤ length d
     turn_part {w} ew d full =
         let some : (k + c) * item_bytes r ≤ length d = omega (arith, full, mul-le-mul_right (item_bytes r) turn_within) in
-        (omega (arith, add-mul k c w), rw (ew, ready-width r f₀ g q h.ready) some)
+        rw (ew, ready-width r f₀ g q h.ready) (omega (arith, some, add-mul k c (item_bytes r)))
 
   module _ (d : List ℕ) {f : List ℕ} (full : length d ≡ run_bytes r g) (so_far : f ≡ up k (sample_to r g i j d) f₀) where
     pub turn_still : Writable r f g q
@@ -119,10 +116,10 @@ module _ {r : Record} {f₀ : List ℕ} {g : Region} {q : Lattice} (h : Writable
       turn_width : w ≡ item_bytes r
       turn_width = ew ∙ ready-width r f₀ g q h.ready
 
-      pub turn_fits : o + m * w + length (peek d (k * w) ((k + c) * w - k * w)) ≤ length f
+      pub turn_fits : o + m * w + length (peek d (k * w) (k * w + c * w - k * w)) ≤ length f
       turn_fits = turn-fits r f g q turn_still i j k q.count2 c at.0 at.1 turn_here (turn_step ec) d full (turn_within ec) o m w eo em turn_width
 
-      pub turn_more : {f' : List ℕ} → f' ≡ put f (o + m * w) (peek d (k * w) ((k + c) * w - k * w)) → f' ≡ up (k + c) (sample_to r g i j d) f₀
+      pub turn_more : {f' : List ℕ} → f' ≡ put f (o + m * w) (peek d (k * w) (k * w + c * w - k * w)) → f' ≡ up (k + c) (sample_to r g i j d) f₀
       turn_more {f'} e =
           run_more r g i j d k c f₀ f f' so_far (e ∙ turn-put r f g q turn_still i j k q.count2 c at.0 at.1 turn_here (turn_step ec) d full (turn_within ec) o m w eo em turn_width)
 

@@ -51,13 +51,15 @@ fn write_run(file: &mut [u8], run: &[u8], site: &Site, i: usize, j: usize)
     while k < n {
         let offset = offset_on(file, site, i, j, k);
         let item = site.item(i, j, k);
-        let e = k + site.down(k, n - k);
-        write_items(file, &run[k * w..e * w], offset, item, w);
-        k = e;
+        let c = site.down(k, n - k);
+        let a = k * w;
+        let e = a + c * w;
+        write_items(file, &run[a..e], offset, item, w);
+        k += c;
     }
 }
 
-// The runs of one inline. That a write may store stands at each loop, since it speaks of the file as the loop finds it.
+// The runs of one inline, which are equal parts of its bytes. That a write may store stands at each loop, since it speaks of the file as the loop finds it.
 fn write_plane(file: &mut [u8], plane: &[u8], site: &Site, i: usize)
     requires writable { IsWritable site.now file.old }
     requires inside { i < run_of site.now.region.now 0 }
@@ -70,7 +72,7 @@ fn write_plane(file: &mut [u8], plane: &[u8], site: &Site, i: usize)
     }
 }
 
-// The inlines of a region.
+// The inlines of a region, equal parts of its bytes too.
 fn write_planes(file: &mut [u8], input: &[u8], site: &Site)
     requires writable { IsWritable site.now file.old }
     requires bytes { length input.now ≡ size_of site.now.region.now * item_bytes site.now.record.now }

@@ -22,31 +22,34 @@ offset_on-offset-requires c = record {
 pub item-item-requires : goal.item-item-requires
 item-item-requires c = turn_inside c.requires.writable c.requires.inside c.loop-k-test.true
 
-pub down-requires : goal.down-requires
-down-requires c = turn_near c.requires.writable c.requires.inside c.loop-k-test.true
+pub down-c-requires : goal.down-c-requires
+down-c-requires c = turn_near c.requires.writable c.requires.inside c.loop-k-test.true
 
-pub overflow_mul-k : goal.overflow_mul-k
-overflow_mul-k c = omega (arith, turn_part c.requires.writable c.requires.inside c.loop-k-test.true c.down.ensures c.index-w.ensures.0 c.args.run.now c.requires.bytes, c.well_formed)
+pub overflow_mul-a : goal.overflow_mul-a
+overflow_mul-a c = omega (arith, turn_part c.requires.writable c.requires.inside c.loop-k-test.true c.down-c.ensures c.index-w.ensures.0 c.args.run.now c.requires.bytes, c.well_formed)
 
 pub overflow_mul-e : goal.overflow_mul-e
-overflow_mul-e c = omega (arith, turn_part c.requires.writable c.requires.inside c.loop-k-test.true c.down.ensures c.index-w.ensures.0 c.args.run.now c.requires.bytes, c.well_formed)
+overflow_mul-e c = omega (arith, turn_part c.requires.writable c.requires.inside c.loop-k-test.true c.down-c.ensures c.index-w.ensures.0 c.args.run.now c.requires.bytes, c.well_formed)
+
+pub overflow_add-e : goal.overflow_add-e
+overflow_add-e c = omega (arith, turn_part c.requires.writable c.requires.inside c.loop-k-test.true c.down-c.ensures c.index-w.ensures.0 c.args.run.now c.requires.bytes, c.well_formed)
 
 pub slice_bounds-write_items-end : goal.slice_bounds-write_items-end
-slice_bounds-write_items-end c = omega (arith, turn_part c.requires.writable c.requires.inside c.loop-k-test.true c.down.ensures c.index-w.ensures.0 c.args.run.now c.requires.bytes)
+slice_bounds-write_items-end c = omega (arith, turn_part c.requires.writable c.requires.inside c.loop-k-test.true c.down-c.ensures c.index-w.ensures.0 c.args.run.now c.requires.bytes)
 
 pub write_items-requires : goal.write_items-requires
 write_items-requires c = turn_fits c.requires.writable c.requires.inside c.loop-k-test.true c.args.run.now c.requires.bytes
-    c.loop-k.invariant.0 c.down.ensures c.offset_on-offset.ensures c.item-item.ensures c.index-w.ensures.0
+    c.loop-k.invariant.0 c.down-c.ensures c.offset_on-offset.ensures c.item-item.ensures c.index-w.ensures.0
 
 pub loop-k-smaller : goal.loop-k-smaller
-loop-k-smaller c = omega (arith, turn_step c.requires.writable c.requires.inside c.loop-k-test.true c.down.ensures)
+loop-k-smaller c = omega (arith, turn_step c.requires.writable c.requires.inside c.loop-k-test.true c.down-c.ensures)
 
 pub loop-k-preserved : goal.loop-k-preserved
 loop-k-preserved c = (
   turn_more c.requires.writable c.requires.inside c.loop-k-test.true c.args.run.now c.requires.bytes c.loop-k.invariant.0
-      c.down.ensures c.offset_on-offset.ensures c.item-item.ensures c.index-w.ensures.0 c.write_items.ensures,
+      c.down-c.ensures c.offset_on-offset.ensures c.item-item.ensures c.index-w.ensures.0 c.write_items.ensures,
   omega (arith, c.write_items.auto.file),
-  omega (arith, turn_step c.requires.writable c.requires.inside c.loop-k-test.true c.down.ensures),
+  omega (arith, turn_step c.requires.writable c.requires.inside c.loop-k-test.true c.down-c.ensures),
 )
 
 pub returns : goal.returns
