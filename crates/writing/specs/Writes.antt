@@ -1,33 +1,40 @@
--- For the private functions of writing alone: the parts of a region's write, and what they may rely on. d is the input.
-use Rattle.std.specs.Prelude.{List, ◌≡◌, ℕ, ◌*◌, ◌≤◌, ◌<◌, length}
-use Rattle.endian.specs.Loops.{up, tri}
+-- For the private functions of writing alone: the parts of a region's write, and what they may rely on.
+use Rattle.std.specs.Prelude.{List, ◌≡◌, ℕ, ◌*◌, ◌<◌}
+use Rattle.endian.specs.Loops.{up}
 use Rattle.record.specs.declared.Record.{Record}
 use Rattle.table.specs.declared.Kind.TheVariants.{Stored}
 use Rattle.cube.specs.declared.Region.{Region}
 use Rattle.cube.specs.Places.{item_bytes, kind_in, brick_of}
-use Rattle.cube.specs.Regions.{run_of, place, size_of, chunk, store}
+use Rattle.cube.specs.Regions.{run_of, place, chunk, store}
 use Rattle.runs.specs.declared.Lattice.{Lattice}
 use Rattle.runs.specs.declared.site.Site.{Site}
-use Rattle.runs.specs.Runs.{Ready}
+use Rattle.runs.specs.Runs.{Ready, Holds}
 
-module _ (r : Record) (g : Region) (d : List ℕ) where
-  -- the input's bytes for a sample put into its place
-  abbrev pub sample_to : ℕ → ℕ → ℕ → List ℕ → List ℕ
-  sample_to i j k h = store r h (place g i j k) (chunk (item_bytes r) d (tri (run_of g 1) (run_of g 2) i j k))
+module _ (r : Record) (g : Region) where
+  -- how many bytes a vertical run has, and an inline
+  abbrev pub run_bytes : ℕ
+  run_bytes = run_of g 2 * item_bytes r
 
-  -- those of a vertical run, and of an inline
-  abbrev pub run_to : ℕ → ℕ → List ℕ → List ℕ
-  run_to i j h = up (run_of g 2) (sample_to i j) h
+  abbrev pub plane_bytes : ℕ
+  plane_bytes = run_of g 1 * run_bytes
 
-  abbrev pub plane_to : ℕ → List ℕ → List ℕ
-  plane_to i h = up (run_of g 1) (run_to i) h
+  -- the k-th item of a run's bytes put into its place
+  abbrev pub sample_to : ℕ → ℕ → List ℕ → ℕ → List ℕ → List ℕ
+  sample_to i j d k h = store r h (place g i j k) (chunk (item_bytes r) d k)
 
--- what a taken verdict on the write leaves: every sample lies in a stored brick, and the input has its bytes
-pub record Writable (r : Record) (f : List ℕ) (g : Region) (q : Lattice) (d : List ℕ) : Type 0 where
+  -- the items of a run, and the runs of an inline
+  abbrev pub run_to : ℕ → ℕ → List ℕ → List ℕ → List ℕ
+  run_to i j d h = up (run_of g 2) (sample_to i j d) h
+
+  abbrev pub plane_to : ℕ → List ℕ → List ℕ → List ℕ
+  plane_to i d h = up (run_of g 1) (λ j. run_to i j (chunk run_bytes d j)) h
+
+-- what a taken verdict on the write leaves: there are samples, and every one lies in a stored brick
+pub record Writable (r : Record) (f : List ℕ) (g : Region) (q : Lattice) : Type 0 where
   pub ready : Ready r f g q
+  pub some : Holds g 0 0 0
   pub stored : (i j k : ℕ) → i < run_of g 0 → j < run_of g 1 → k < run_of g 2 → (o : ℕ) × (kind_in r f (brick_of r (place g i j k)) ≡ Stored o)
-  pub enough : size_of g * item_bytes r ≤ length d
 
 -- the same of a site
-abbrev pub IsWritable : Site → List ℕ → List ℕ → Type 0
-IsWritable s f d = Writable s.record.now f s.region.now s.lattice d
+abbrev pub IsWritable : Site → List ℕ → Type 0
+IsWritable s f = Writable s.record.now f s.region.now s.lattice

@@ -3,14 +3,13 @@
 #![tactic(auto)]
 
 ghost use Rattle.std.specs.Prelude.{◌≡◌, ◌+◌, ◌*◌, ◌≤◌, ◌<◌, length};
-ghost use Rattle.endian.specs.Loops.{tri};
-ghost use Rattle.endian.specs.Bytes.{peek, put};
+ghost use Rattle.endian.specs.Bytes.{put};
 ghost use Rattle.record.specs.Answers.{Taken};
 ghost use Rattle.cube.specs.Places.{item_bytes, Inside, kind_in, brick_of};
 ghost use Rattle.cube.specs.Calls.{Call, answer_of, cube_after};
 ghost use Rattle.table.specs.Entries.{offset_in};
 ghost use Rattle.cube.specs.Regions.{run_of, place, size_of, written, write_verdict};
-ghost use Rattle.writing.specs.Writes.{run_to, plane_to, IsWritable};
+ghost use Rattle.writing.specs.Writes.{run_bytes, plane_bytes, run_to, plane_to, IsWritable};
 
 use cube::Region;
 use endian::copy;
@@ -29,72 +28,59 @@ fn offset_on(file: &[u8], site: &Site, i: usize, j: usize, k: usize) -> u64
     site.kind(file, i, j, k).offset().unwrap_or(0)
 }
 
-// n items into a brick at this offset, from this item on: the input's bytes from a on.
-fn write_items(
-    file: &mut [u8],
-    input: &[u8],
-    offset: u64,
-    item: usize,
-    a: usize,
-    n: usize,
-    w: usize,
-)
-    requires { (offset + (item + n) * w ≤ length file.old) × (a + n * w ≤ length input.now) }
-    ensures { file.new ≡ put file.old (offset + item * w) (peek input.now a (n * w)) }
+// These bytes into a brick at this offset, from this item on.
+fn write_items(file: &mut [u8], input: &[u8], offset: u64, item: usize, w: usize)
+    requires { offset + item * w + length input.now ≤ length file.old }
+    ensures { file.new ≡ put file.old (offset + item * w) input.now }
 {
-    let c = n * w;
     let p = offset as usize + item * w;
-    let e = p + c;
-    let b = a + c;
-    copy(&mut file[p..e], &input[a..b]);
+    let e = p + input.len();
+    copy(&mut file[p..e], input);
 }
 
-// One vertical run, cut at the bricks' faces: the input's bytes from `at` on. A turn goes as far as the brick, which no range says.
-fn write_run(file: &mut [u8], input: &[u8], site: &Site, i: usize, j: usize, at: usize)
-    requires writable { IsWritable site.now file.old input.now }
-    requires i_bound { (i < run_of site.now.region.now 0) × (j < run_of site.now.region.now 1) × (at ≡ tri (run_of site.now.region.now 1) (run_of site.now.region.now 2) i j 0 * item_bytes site.now.record.now) }
-    ensures { file.new ≡ run_to site.now.record.now site.now.region.now input.now i j file.old }
+// One vertical run, cut at the bricks' faces. A turn goes as far as the brick, which no range says.
+fn write_run(file: &mut [u8], run: &[u8], site: &Site, i: usize, j: usize)
+    requires writable { IsWritable site.now file.old }
+    requires inside { (i < run_of site.now.region.now 0) × (j < run_of site.now.region.now 1) }
+    requires bytes { length run.now ≡ run_bytes site.now.record.now site.now.region.now }
+    ensures { file.new ≡ run_to site.now.record.now site.now.region.now i j run.now file.old }
 {
     let w = index(site.lattice.width);
     let n = site.lattice.count2;
     let mut k = 0;
-    let mut a = at;
     while k < n {
         let offset = offset_on(file, site, i, j, k);
         let item = site.item(i, j, k);
         let c = site.down(k, n - k);
-        write_items(file, input, offset, item, a, c, w);
-        a += c * w;
+        let a = k * w;
+        let e = a + c * w;
+        write_items(file, &run[a..e], offset, item, w);
         k += c;
     }
 }
 
-// The runs of one inline, of `run` bytes each. Their places are added up: that a sum fits follows from the run before, a product needs a proof of
-// its own. That a write may store stands at each loop, since it speaks of the file as the loop finds it.
-fn write_plane(file: &mut [u8], input: &[u8], site: &Site, i: usize, run: usize, at: usize)
-    requires writable { IsWritable site.now file.old input.now }
-    requires i_bound { (i < run_of site.now.region.now 0) × (run ≡ run_of site.now.region.now 2 * item_bytes site.now.record.now) × (at ≡ tri (run_of site.now.region.now 1) (run_of site.now.region.now 2) i 0 0 * item_bytes site.now.record.now) }
-    ensures { file.new ≡ plane_to site.now.record.now site.now.region.now input.now i file.old }
+// The runs of one inline, which are equal parts of its bytes. That a write may store stands at each loop, since it speaks of the file as the loop finds it.
+fn write_plane(file: &mut [u8], plane: &[u8], site: &Site, i: usize)
+    requires writable { IsWritable site.now file.old }
+    requires inside { i < run_of site.now.region.now 0 }
+    requires bytes { length plane.now ≡ plane_bytes site.now.record.now site.now.region.now }
+    ensures { file.new ≡ plane_to site.now.record.now site.now.region.now i plane.now file.old }
 {
-    let n = site.lattice.count1;
-    let mut a = at;
-    for j in 0..n {
-        write_run(file, input, site, i, j, a);
-        a += run;
+    let size = plane.len() / site.lattice.count1;
+    for (j, run) in plane.chunks_exact(size).enumerate() {
+        write_run(file, run, site, i, j);
     }
 }
 
-// The inlines of a region, of `plane` bytes each, whose places are added up too.
-fn write_planes(file: &mut [u8], input: &[u8], site: &Site, run: usize, plane: usize)
-    requires writable { IsWritable site.now file.old input.now }
-    requires run_value { (run ≡ run_of site.now.region.now 2 * item_bytes site.now.record.now) × (plane ≡ run_of site.now.region.now 1 * run) }
+// The inlines of a region, equal parts of its bytes too.
+fn write_planes(file: &mut [u8], input: &[u8], site: &Site)
+    requires writable { IsWritable site.now file.old }
+    requires bytes { length input.now ≡ size_of site.now.region.now * item_bytes site.now.record.now }
     ensures { file.new ≡ written site.now.record.now site.now.region.now input.now file.old }
 {
-    let n = site.lattice.count0;
-    let mut a = 0;
-    for i in 0..n {
-        write_plane(file, input, site, i, run, a);
-        a += plane;
+    let size = input.len() / site.lattice.count0;
+    for (i, plane) in input.chunks_exact(size).enumerate() {
+        write_plane(file, plane, site, i);
     }
 }
 
@@ -105,15 +91,13 @@ fn write_region(file: &mut [u8], input: &[u8], r: Record, g: Region) -> usize
     ensures cube { file.new ≡ written r g input.now file.old }
 {
     let q = lattice_of(r, g);
-    let run = q.count2 * index(q.width);
-    let plane = q.count1 * run;
-    let n = q.count0 * plane;
+    let n = q.count0 * (q.count1 * (q.count2 * index(q.width)));
     let site = Site {
         record: &r,
         region: &g,
         lattice: q,
     };
-    write_planes(file, input, &site, run, plane);
+    write_planes(file, &input[..n], &site);
     n
 }
 

@@ -1,45 +1,47 @@
-use Prim.Native.Nat.{◌<◌}
-use mathlib.Core.Path.{◌≡◌}
-use native.Mathlib.Omega.{arith}
-use native.Mathlib.Nat.{le_refl}
-use Rattle.cube.specs.Regions.{run_of}
-use Rattle.runs.proofs.Steps.{counts}
-use Rattle.writing.specs.Writes.{Writable}
-use Rattle.writing.proofs.Keeps.{run_kept, writable_kept}
-use Rattle.writing.proofs.Turns.{run_room, writes-none, writes_more, writes-all}
+use mathlib.Core.Path.{ap, ◌∙◌}
+use Rattle.std.specs.Iterator.Adapters.{enumerate_source, enumerate_count}
+use Rattle.std.specs.Slice.Iter.{chunks_exact_rest, chunks_exact_size}
+use Rattle.std.proofs.Common.{rules}
+use Rattle.writing.proofs.Keeps.{writable_kept, whole_run_kept}
+use Rattle.writing.proofs.Turns.{run_some, runs_some, run_size, parts-none, part_here, parts_more, parts-all}
 use Rattle.writing.proofs.write_plane.Goals as goal
 
+pub nonzero_div-size : goal.nonzero_div-size
+nonzero_div-size c = runs_some c.requires.writable
+
+pub chunks_exact-requires : goal.chunks_exact-requires
+chunks_exact-requires c = rw (run_size c.requires.writable _ c.requires.bytes) (run_some c.requires.writable)
+
 pub loop-j-init : goal.loop-j-init
-loop-j-init c = (writes-none _ _ _ _, c.requires.i_bound.2)
+loop-j-init c =
+    let it = c.into_iter-j-iterator.ensures.into_iter_gives in
+    let source = ap enumerate_source it ∙ c.enumerate-j-items.ensures.source in
+    let size = ap chunks_exact_size source ∙ c.chunks_exact.ensures.size ∙ run_size c.requires.writable _ c.requires.bytes in (
+      (rw size (run_some c.requires.writable), tt, search rules),
+      tt,
+      parts-none _ _ _ _ _ (ap enumerate_count it ∙ c.enumerate-j-items.ensures.count) (ap chunks_exact_rest source ∙ c.chunks_exact.ensures.rest) size,
+    )
 
 pub write_run-requires : goal.write_run-requires
 write_run-requires c =
-    let count : c.args.site.now.lattice.count1 ≡ run_of c.args.site.now.region.now 1 = (counts _ _ _ _ c.requires.writable.ready).1 in
-    let here : c.loop-j.j < run_of c.args.site.now.region.now 1 = omega (arith, count, c.loop-j-test.true) in
-    let still : Writable c.args.site.now.record.now c.loop-j.file c.args.site.now.region.now c.args.site.now.lattice c.args.input.now =
-    writable_kept _ _ _ _ _ c.requires.writable c.loop-j.file c.loop-j.invariant.0.kept in
+    let s = c.in-Some.ensures.steps in
+    let h = c.loop-j.invariant.2 in
     record {
-      writable = still;
-      i_bound = (c.requires.i_bound.0, here, c.loop-j.invariant.1);
+      writable = writable_kept _ _ _ _ c.requires.writable c.loop-j.file h.kept;
+      inside = (c.requires.inside, part_here h _ _ s.1 s.0.1 _ c.requires.bytes (run_some c.requires.writable));
+      bytes = s.0.1.1 ∙ h.sized;
     }
-
-pub overflow_add-a : goal.overflow_add-a
-overflow_add-a c =
-    let count : c.args.site.now.lattice.count1 ≡ run_of c.args.site.now.region.now 1 = (counts _ _ _ _ c.requires.writable.ready).1 in
-    let here : c.loop-j.j < run_of c.args.site.now.region.now 1 = omega (arith, count, c.loop-j-test.true) in
-    omega (arith, run_room _ _ _ _ _ c.requires.writable c.args.i c.requires.i_bound.0 c.loop-j.j here, c.loop-j.invariant.1, c)
 
 pub loop-j-preserved : goal.loop-j-preserved
 loop-j-preserved c =
-    let count : c.args.site.now.lattice.count1 ≡ run_of c.args.site.now.region.now 1 = (counts _ _ _ _ c.requires.writable.ready).1 in
-    let here : c.loop-j.j < run_of c.args.site.now.region.now 1 = omega (arith, count, c.loop-j-test.true) in (
-      writes_more c.args.site.now.record.now c.loop-j.invariant.0 here c.write_run.ensures
-          (run_kept _ _ _ _ _ c.requires.writable c.args.i c.requires.i_bound.0 c.loop-j.j here c.loop-j.file c.loop-j.invariant.0.kept (run_of
-          c.args.site.now.region.now 2) (le_refl (run_of c.args.site.now.region.now 2))),
-      omega (arith, c.loop-j.invariant.1, c.requires.i_bound.1),
+    let s = c.in-Some.ensures.steps in
+    let h = c.loop-j.invariant.2 in
+    let here = part_here h _ _ s.1 s.0.1 _ c.requires.bytes (run_some c.requires.writable) in (
+      (search rules, tt, search rules),
+      tt,
+      parts_more h _ _ s.1 s.0.1 s.2 s.0.0 c.write_run.ensures
+          (whole_run_kept _ _ _ _ c.requires.writable c.args.i _ c.requires.inside here _ (s.0.1.1 ∙ h.sized) c.loop-j.file h.kept),
     )
 
 pub returns : goal.returns
-returns c =
-    let count : c.args.site.now.lattice.count1 ≡ run_of c.args.site.now.region.now 1 = (counts _ _ _ _ c.requires.writable.ready).1 in
-    writes-all c.args.site.now.record.now c.loop-j.invariant.0 (omega (arith, count, c.loop-j-test.false))
+returns c = parts-all c.loop-j.invariant.2 _ c.requires.bytes (run_some c.requires.writable) c.in-None.ensures.steps.0.1.0

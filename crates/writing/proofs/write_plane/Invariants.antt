@@ -1,15 +1,11 @@
-use Prim.Native.Nat.{◌-◌, ◌*◌}
-use mathlib.Core.Path.{◌≡◌}
-use Rattle.endian.specs.Loops.{tri}
-use Rattle.cube.specs.Places.{item_bytes}
-use Rattle.cube.specs.Regions.{run_of}
-use Rattle.writing.specs.Writes.{run_to}
-use Rattle.writing.proofs.Turns.{Writes}
+use Rattle.std.specs.Iterator.Adapters.{enumerate_source, enumerate_count}
+use Rattle.std.specs.Slice.Iter.{chunks_exact_rest, chunks_exact_size}
+use Rattle.writing.specs.Writes.{run_bytes, run_to}
+use Rattle.writing.proofs.Turns.{Parts}
 use Rattle.writing.proofs.write_plane.Given as goal
 
 abbrev pub invariant-loop-j : goal.invariant-loop-j
-invariant-loop-j l = Writes l.site.record.now l.initial.file (run_to l.site.record.now l.site.region.now l.input l.i) (run_of l.site.region.now 1)
-    l.file l.j × (l.a ≡ tri (run_of l.site.region.now 1) (run_of l.site.region.now 2) l.i l.j 0 * item_bytes l.site.record.now)
-
-abbrev pub decreases-loop-j : goal.decreases-loop-j
-decreases-loop-j l = l.n - l.j
+invariant-loop-j l =
+    (goal.iterator-loop-j).can_next l.j-iterator × (goal.iterator-loop-j).is_finite l.j-iterator
+    × Parts l.site.record.now l.initial.file (run_to l.site.record.now l.site.region.now l.i) (run_bytes l.site.record.now l.site.region.now) l.plane l.file (enumerate_count l.j-iterator)
+    (chunks_exact_size (enumerate_source l.j-iterator)) (chunks_exact_rest (enumerate_source l.j-iterator))

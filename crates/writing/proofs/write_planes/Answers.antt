@@ -1,51 +1,48 @@
-use Prim.Native.Nat.{ℕ, ◌<◌, ◌*◌}
-use mathlib.Core.Path.{◌≡◌, ap, ◌∙◌}
-use native.Mathlib.Omega.{arith}
-use native.Mathlib.Nat.{le_refl, zero-mul}
-use Rattle.cube.specs.Places.{item_bytes}
-use Rattle.cube.specs.Regions.{run_of}
-use Rattle.runs.proofs.Steps.{counts}
-use Rattle.writing.specs.Writes.{Writable}
-use Rattle.writing.proofs.Keeps.{plane_kept, writable_kept, all_planes}
-use Rattle.writing.proofs.Turns.{plane_room, writes-none, writes_more, writes-all}
+use mathlib.Core.Path.{ap, ◌∙◌}
+use Rattle.std.specs.Iterator.Adapters.{enumerate_source, enumerate_count}
+use Rattle.std.specs.Slice.Iter.{chunks_exact_rest, chunks_exact_size}
+use Rattle.std.proofs.Common.{rules}
+use Rattle.writing.proofs.Keeps.{writable_kept, plane_kept, all_planes}
+use Rattle.writing.proofs.Turns.{plane_some, planes_some, plane_size, by_planes, parts-none, part_here, parts_more, parts-all}
 use Rattle.writing.proofs.write_planes.Goals as goal
 
+pub nonzero_div-size : goal.nonzero_div-size
+nonzero_div-size c = planes_some c.requires.writable
+
+pub chunks_exact-requires : goal.chunks_exact-requires
+chunks_exact-requires c = rw (plane_size c.requires.writable _ c.requires.bytes) (plane_some c.requires.writable)
+
 pub loop-i-init : goal.loop-i-init
-loop-i-init c = (writes-none _ _ _ _, simp zero-mul)
+loop-i-init c =
+    let it = c.into_iter-i-iterator.ensures.into_iter_gives in
+    let source = ap enumerate_source it ∙ c.enumerate-i-items.ensures.source in
+    let size = ap chunks_exact_size source ∙ c.chunks_exact.ensures.size ∙ plane_size c.requires.writable _ c.requires.bytes in (
+      (rw size (plane_some c.requires.writable), tt, search rules),
+      tt,
+      parts-none _ _ _ _ _ (ap enumerate_count it ∙ c.enumerate-i-items.ensures.count) (ap chunks_exact_rest source ∙ c.chunks_exact.ensures.rest) size,
+    )
 
 pub write_plane-requires : goal.write_plane-requires
 write_plane-requires c =
-    let count : c.args.site.now.lattice.count0 ≡ run_of c.args.site.now.region.now 0 = (counts _ _ _ _ c.requires.writable.ready).0 in
-    let here : c.loop-i.i < run_of c.args.site.now.region.now 0 = omega (arith, count, c.loop-i-test.true) in
-    let still : Writable c.args.site.now.record.now c.loop-i.file c.args.site.now.region.now c.args.site.now.lattice c.args.input.now =
-    writable_kept _ _ _ _ _ c.requires.writable c.loop-i.file c.loop-i.invariant.0.kept in
+    let s = c.in-Some.ensures.steps in
+    let h = c.loop-i.invariant.2 in
     record {
-      writable = still;
-      i_bound = (here, c.requires.run_value.0, c.loop-i.invariant.1);
+      writable = writable_kept _ _ _ _ c.requires.writable c.loop-i.file h.kept;
+      inside = part_here h _ _ s.1 s.0.1 _ (by_planes c.requires.writable _ c.requires.bytes) (plane_some c.requires.writable);
+      bytes = s.0.1.1 ∙ h.sized;
     }
-
-pub overflow_add-a : goal.overflow_add-a
-overflow_add-a c =
-    let count : c.args.site.now.lattice.count0 ≡ run_of c.args.site.now.region.now 0 = (counts _ _ _ _ c.requires.writable.ready).0 in
-    let here : c.loop-i.i < run_of c.args.site.now.region.now 0 = omega (arith, count, c.loop-i-test.true) in
-    let bytes : c.args.plane ≡ run_of c.args.site.now.region.now 1 * (run_of c.args.site.now.region.now 2 * item_bytes c.args.site.now.record.now) =
-    c.requires.run_value.1 ∙ ap (λ (x : ℕ). run_of c.args.site.now.region.now 1 * x) c.requires.run_value.0 in
-    omega (arith, plane_room _ _ _ _ _ c.requires.writable c.loop-i.i here, c.loop-i.invariant.1, bytes, c)
 
 pub loop-i-preserved : goal.loop-i-preserved
 loop-i-preserved c =
-    let count : c.args.site.now.lattice.count0 ≡ run_of c.args.site.now.region.now 0 = (counts _ _ _ _ c.requires.writable.ready).0 in
-    let here : c.loop-i.i < run_of c.args.site.now.region.now 0 = omega (arith, count, c.loop-i-test.true) in
-    let bytes : c.args.plane ≡ run_of c.args.site.now.region.now 1 * (run_of c.args.site.now.region.now 2 * item_bytes c.args.site.now.record.now) =
-    c.requires.run_value.1 ∙ ap (λ (x : ℕ). run_of c.args.site.now.region.now 1 * x) c.requires.run_value.0 in (
-      writes_more c.args.site.now.record.now c.loop-i.invariant.0 here c.write_plane.ensures
-          (plane_kept _ _ _ _ _ c.requires.writable c.loop-i.i here c.loop-i.file c.loop-i.invariant.0.kept (run_of c.args.site.now.region.now 1)
-          (le_refl (run_of c.args.site.now.region.now 1))),
-      omega (arith, c.loop-i.invariant.1, bytes),
+    let s = c.in-Some.ensures.steps in
+    let h = c.loop-i.invariant.2 in
+    let here = part_here h _ _ s.1 s.0.1 _ (by_planes c.requires.writable _ c.requires.bytes) (plane_some c.requires.writable) in (
+      (search rules, tt, search rules),
+      tt,
+      parts_more h _ _ s.1 s.0.1 s.2 s.0.0 c.write_plane.ensures
+          (plane_kept _ _ _ _ c.requires.writable _ here _ (s.0.1.1 ∙ h.sized) c.loop-i.file h.kept),
     )
 
 pub returns : goal.returns
-returns c =
-    let count : c.args.site.now.lattice.count0 ≡ run_of c.args.site.now.region.now 0 = (counts _ _ _ _ c.requires.writable.ready).0 in
-    writes-all c.args.site.now.record.now c.loop-i.invariant.0 (omega (arith, count, c.loop-i-test.false)) ∙ all_planes c.args.site.now.record.now
-    c.args.site.now.region.now c.args.input.now c.args.file.now
+returns c = parts-all c.loop-i.invariant.2 _ (by_planes c.requires.writable _ c.requires.bytes) (plane_some c.requires.writable) c.in-None.ensures.steps.0.1.0
+    ∙ all_planes c.args.site.now.record.now c.args.site.now.region.now c.args.input.now c.requires.bytes c.args.file.now
