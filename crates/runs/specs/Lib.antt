@@ -2,3 +2,4 @@
 pub mod Runs
 pub mod Boxes
 pub mod Views
+pub mod Parts

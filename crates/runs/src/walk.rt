@@ -8,8 +8,9 @@ ghost use Rattle.cube.specs.declared.Region.{Region};
 ghost use Rattle.cube.specs.Regions.{run_of};
 ghost use Rattle.runs.specs.Views.{whole, Through, InBrick, Roomy, Filled};
 
+use crate::at_once;
+use crate::parts::Parts;
 use crate::site::{BrickBox, Span, View};
-use crate::{at_once, left};
 
 // A way to read samples: what they become, and how a box of one brick is read. A reader reads a whole box: raw reads join columns into one run, and
 // float reads gather strips, so that below a box their loops have little in common.
@@ -41,13 +42,8 @@ fn read_boxes<R: Reader>(out: &mut [R::Element], v: &View, reader: &R, i: Span, 
     ensures { Filled R.width R.sample v.now i j (whole v.now 2) out.old out.new }
 {
     let q = v.site.lattice;
-    let n = q.count2;
-    let mut k = 0;
-    while k < n {
-        let nk = left(q.start2, k, q.side2, n - k);
-        let down = Span { at: k, n: nk };
+    for down in Parts::new(q.start2, q.side2, q.count2) {
         reader.read_box(out, v, BrickBox { i, j, k: down });
-        k += nk;
     }
 }
 
@@ -75,13 +71,8 @@ fn read_columns<R: Reader>(out: &mut [R::Element], v: &View, reader: &R, i: Span
     ensures { Filled R.width R.sample v.now i (whole v.now 1) (whole v.now 2) out.old out.new }
 {
     let q = v.site.lattice;
-    let n = q.count1;
-    let mut j = 0;
-    while j < n {
-        let nj = left(q.start1, j, q.side1, n - j);
-        let across = Span { at: j, n: nj };
+    for across in Parts::new(q.start1, q.side1, q.count1) {
         read_column(out, v, reader, i, across);
-        j += nj;
     }
 }
 
@@ -93,12 +84,7 @@ pub fn read_bricks<R: Reader>(out: &mut [R::Element], v: &View, reader: &R)
         R.sample v.now.site.record.now v.now.file.now v.now.site.region.now x y z))) }
 {
     let q = v.site.lattice;
-    let n = q.count0;
-    let mut i = 0;
-    while i < n {
-        let ni = left(q.start0, i, q.side0, n - i);
-        let along = Span { at: i, n: ni };
+    for along in Parts::new(q.start0, q.side0, q.count0) {
         read_columns(out, v, reader, along);
-        i += ni;
     }
 }
