@@ -1,5 +1,5 @@
 -- What a site knows of its samples. Assumes nothing.
-use Prim.Native.Nat.{ℕ, zero, suc, ◌+◌, ◌-◌, ◌%◌, ◌≤◌, ◌<◌}
+use Prim.Native.Nat.{ℕ, zero, suc, ◌+◌, ◌-◌, ◌%◌, ◌≤◌, ◌<◌, min}
 use mathlib.Core.Bool.{true}
 use mathlib.Core.Path.{◌≡◌, refl, ap, ◌∙◌}
 use native.Mathlib.Omega.{arith}
@@ -14,7 +14,6 @@ use Rattle.runs.specs.declared.site.Site.{Site}
 use Rattle.runs.specs.declared.site.View.{View}
 use Rattle.runs.specs.declared.parts.Parts.{Parts}
 use Rattle.runs.specs.declared.site.Span.{Span}
-use Rattle.runs.specs.Parts.{Cut}
 use Rattle.runs.specs.Views.{Through}
 use Rattle.runs.specs.Runs.{lattice_of, Placed}
 use Rattle.runs.proofs.Boxes.{along}
@@ -65,13 +64,6 @@ pub record PartsOf (v : View) (d : ℕ) (p : Parts) : Type 0 where
   pub side : p.side ≡ side_on v.site.lattice d
   pub end : p.end ≡ count_on v.site.lattice d
 
--- a turn of the walk along a direction, from at on: the samples x that lie in the brick of the first
-pub record Turn (v : View) (d at : ℕ) (x : Span) (t : Parts) : Type 0 where
-  pub along : Through v d x
-  pub from : x.at ≡ 0 + at
-  pub next : t.at ≡ at + x.n
-  pub rest : PartsOf v d t
-
 module _ (v : View) where
   abbrev grid : Lattice
   grid = v.site.lattice
@@ -104,17 +96,11 @@ module _ (v : View) where
   numbers_on (suc (suc zero)) l = rw v.ready.laid (refl, refl, refl)
   numbers_on (suc (suc (suc d))) l = absurd (omega arith)
 
-  -- what it gives
-  pub turn_on : (d : ℕ) {p t : Parts} {x : Span} → d ≤ 2 → PartsOf v d p → Cut p x t → Turn v d p.at x t
-  turn_on d {p} {t} {x} l c g =
+  -- a part that it gives, and where it ends
+  pub turn_on : (d : ℕ) {p : Parts} (x : Span) → d ≤ 2 → PartsOf v d p → p.at < p.end → x.at ≡ p.at → x.n ≡ min (p.side - (p.start + p.at) % p.side) (p.end - p.at) → Through v d x
+  turn_on d {p} x l c h a e =
       let n = numbers_on d l in
-      record {
-        along = along _ _ d x.at p.end x.n (rw (← n.0, ← c.side) (side-pos _ p.ok.0)) g.some (c.end ∙ n.2) (rw (← n.0, ← n.1, ← c.start, ← c.side) g.n);
-        from = omega (arith, g.at);
-        next = rw g.at at g.next;
-        rest = record { start = g.start ∙ c.start; side = g.side ∙ c.side; end = g.end ∙ c.end };
-      }
+      rw a (along _ _ d p.at p.end x.n (rw (← n.0, ← c.side) (side-pos _ p.ok.0)) h (c.end ∙ n.2) (rw (← n.0, ← n.1, ← c.start, ← c.side) e))
 
-  -- where it ends
   pub end_on : (d : ℕ) {p : Parts} → d ≤ 2 → PartsOf v d p → p.at ≡ p.end → p.at ≡ run_of v.site.region.now d
   end_on d l c e = e ∙ c.end ∙ (numbers_on d l).2

@@ -2,4 +2,3 @@
 pub mod Runs
 pub mod Boxes
 pub mod Views
-pub mod Parts

@@ -1,5 +1,6 @@
 // A direction of a region cut at the bricks' faces.
-ghost use Rattle.std.specs.Prelude.{◌≡◌, true, ◌+◌, ◌-◌, ◌%◌, ◌≤◌, ◌<◌, min};
+ghost use Rattle.std.specs.Prelude.{◌≡◌, true, ◌+◌, ◌-◌, ◌%◌, ◌≤◌, ◌<◌, min, MatchOption};
+ghost use Rattle.std.specs.Iterator.{at_most};
 ghost use Rattle.checks.specs.Checks.{side_ok};
 
 use crate::left;
@@ -31,12 +32,10 @@ impl Parts {
 }
 
 impl Iterator for Parts {
-    ghost use Rattle.std.specs.Iterator.{at_most};
-    ghost use Rattle.runs.specs.Parts.{GivesPart};
-
     type Item = Span;
 
-    ghost next_gives = { GivesPart };
+    ghost next_gives = { λ s r t. (t.start ≡ s.start) × (t.side ≡ s.side) × (t.end ≡ s.end) × MatchOption r (s.at ≡ s.end) (λ x.
+        (s.at < s.end) × (x.at ≡ s.at) × (x.n ≡ min (s.side - (s.start + s.at) % s.side) (s.end - s.at)) × (t.at ≡ s.at + x.n)) };
 
     ghost remaining = { λ s. at_most (s.end - s.at) };
 

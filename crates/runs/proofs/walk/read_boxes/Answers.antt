@@ -1,5 +1,6 @@
+use mathlib.Core.Path.{◌≡◌, ◌∙◌}
 use native.Mathlib.Omega.{arith}
-use mathlib.Core.Path.{◌≡◌}
+use native.Mathlib.Nat.{zero-add}
 use Rattle.cube.specs.Regions.{run_of}
 use Rattle.runs.proofs.Boxes.{boxed_more2}
 use Rattle.runs.proofs.Sites.{asks_on, turn_on, end_on}
@@ -10,14 +11,17 @@ new-down-items-requires g c = asks_on c.args.v.now 2 (omega arith)
 
 pub read_box-requires-clause-in_brick : goal.read_box-requires-clause-in_brick
 read_box-requires-clause-in_brick g c =
-    record { inline = c.requires.through.0; crossline = c.requires.through.1; vertical = (turn_on c.args.v.now 2 (omega arith) c.loop-down.invariant.1 c.in-Some.ensures.steps).along }
+    let x = c.in-Some.ensures.steps.3 in
+    record { inline = c.requires.through.0; crossline = c.requires.through.1; vertical = turn_on c.args.v.now 2 _ (omega arith) c.loop-down.invariant.1 x.0 x.1 x.2 }
 
 pub loop-down-preserved : goal.loop-down-preserved
 loop-down-preserved g c =
-    let t = turn_on c.args.v.now 2 (omega arith) c.loop-down.invariant.1 c.in-Some.ensures.steps in
-    (rw t.next (boxed_more2 c.loop-down.invariant.0 (rw t.from at c.read_box.ensures)), t.rest)
+    let s = c.in-Some.ensures.steps in
+    let x = s.3 in
+    let was = c.loop-down.invariant in
+    (rw x.3 (boxed_more2 was.0 (rw (zero-add, ← x.1) c.read_box.ensures)), record { start = s.0 ∙ was.1.start; side = s.1 ∙ was.1.side; end = s.2 ∙ was.1.end })
 
 pub returns : goal.returns
 returns g c =
-    let e : c.loop-down.down-iterator.at ≡ run_of c.args.v.now.site.region.now 2 = end_on c.args.v.now 2 (omega arith) c.loop-down.invariant.1 c.in-None.ensures.steps in
+    let e : c.loop-down.down-iterator.at ≡ run_of c.args.v.now.site.region.now 2 = end_on c.args.v.now 2 (omega arith) c.loop-down.invariant.1 c.in-None.ensures.steps.3 in
     rw e at c.loop-down.invariant.0

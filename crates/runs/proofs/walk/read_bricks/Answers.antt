@@ -1,5 +1,6 @@
-use mathlib.Core.Path.{◌≡◌}
+use mathlib.Core.Path.{◌≡◌, ◌∙◌}
 use native.Mathlib.Omega.{arith}
+use native.Mathlib.Nat.{zero-add}
 use Rattle.cube.specs.Regions.{run_of}
 use Rattle.runs.proofs.Boxes.{boxed_more0, boxed_all}
 use Rattle.runs.proofs.Sites.{asks_on, turn_on, end_on}
@@ -9,14 +10,18 @@ pub new-along-items-requires : goal.new-along-items-requires
 new-along-items-requires g c = asks_on c.args.v.now 0 (omega arith)
 
 pub read_columns-requires-clause-through : goal.read_columns-requires-clause-through
-read_columns-requires-clause-through g c = (turn_on c.args.v.now 0 (omega arith) c.loop-along.invariant.1 c.in-Some.ensures.steps).along
+read_columns-requires-clause-through g c =
+    let x = c.in-Some.ensures.steps.3 in
+    turn_on c.args.v.now 0 _ (omega arith) c.loop-along.invariant.1 x.0 x.1 x.2
 
 pub loop-along-preserved : goal.loop-along-preserved
 loop-along-preserved g c =
-    let t = turn_on c.args.v.now 0 (omega arith) c.loop-along.invariant.1 c.in-Some.ensures.steps in
-    (rw t.next (boxed_more0 c.loop-along.invariant.0 (rw t.from at c.read_columns.ensures)), t.rest)
+    let s = c.in-Some.ensures.steps in
+    let x = s.3 in
+    let was = c.loop-along.invariant in
+    (rw x.3 (boxed_more0 was.0 (rw (zero-add, ← x.1) c.read_columns.ensures)), record { start = s.0 ∙ was.1.start; side = s.1 ∙ was.1.side; end = s.2 ∙ was.1.end })
 
 pub returns : goal.returns
 returns g c =
-    let e : c.loop-along.along-iterator.at ≡ run_of c.args.v.now.site.region.now 0 = end_on c.args.v.now 0 (omega arith) c.loop-along.invariant.1 c.in-None.ensures.steps in
+    let e : c.loop-along.along-iterator.at ≡ run_of c.args.v.now.site.region.now 0 = end_on c.args.v.now 0 (omega arith) c.loop-along.invariant.1 c.in-None.ensures.steps.3 in
     boxed_all c.requires.room (rw e at c.loop-along.invariant.0)

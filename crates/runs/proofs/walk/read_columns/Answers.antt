@@ -1,5 +1,6 @@
-use mathlib.Core.Path.{◌≡◌}
+use mathlib.Core.Path.{◌≡◌, ◌∙◌}
 use native.Mathlib.Omega.{arith}
+use native.Mathlib.Nat.{zero-add}
 use Rattle.cube.specs.Regions.{run_of}
 use Rattle.runs.proofs.Boxes.{boxed_more1}
 use Rattle.runs.proofs.Sites.{asks_on, turn_on, end_on}
@@ -10,14 +11,17 @@ new-across-items-requires g c = asks_on c.args.v.now 1 (omega arith)
 
 pub read_column-requires-clause-through : goal.read_column-requires-clause-through
 read_column-requires-clause-through g c =
-    (c.requires.through, (turn_on c.args.v.now 1 (omega arith) c.loop-across.invariant.1 c.in-Some.ensures.steps).along)
+    let x = c.in-Some.ensures.steps.3 in
+    (c.requires.through, turn_on c.args.v.now 1 _ (omega arith) c.loop-across.invariant.1 x.0 x.1 x.2)
 
 pub loop-across-preserved : goal.loop-across-preserved
 loop-across-preserved g c =
-    let t = turn_on c.args.v.now 1 (omega arith) c.loop-across.invariant.1 c.in-Some.ensures.steps in
-    (rw t.next (boxed_more1 c.loop-across.invariant.0 (rw t.from at c.read_column.ensures)), t.rest)
+    let s = c.in-Some.ensures.steps in
+    let x = s.3 in
+    let was = c.loop-across.invariant in
+    (rw x.3 (boxed_more1 was.0 (rw (zero-add, ← x.1) c.read_column.ensures)), record { start = s.0 ∙ was.1.start; side = s.1 ∙ was.1.side; end = s.2 ∙ was.1.end })
 
 pub returns : goal.returns
 returns g c =
-    let e : c.loop-across.across-iterator.at ≡ run_of c.args.v.now.site.region.now 1 = end_on c.args.v.now 1 (omega arith) c.loop-across.invariant.1 c.in-None.ensures.steps in
+    let e : c.loop-across.across-iterator.at ≡ run_of c.args.v.now.site.region.now 1 = end_on c.args.v.now 1 (omega arith) c.loop-across.invariant.1 c.in-None.ensures.steps.3 in
     rw e at c.loop-across.invariant.0
