@@ -1,6 +1,5 @@
-// A region read brick by brick: the bricks that it touches, each once for some of its inlines, and of each brick one box. The loops go on by
-// what `left` or `at_once` answers, a step that differs from turn to turn, which no range or `step_by` has: an iterator of such parts would have to
-// be written and proved, and would say no more.
+// A region read brick by brick: the bricks that it touches, each once for some of its inlines, and of each brick one box. `read_column` goes on by
+// what `at_once` answers, a step that differs from turn to turn, which no range or `step_by` has.
 ghost use Rattle.std.specs.Prelude.{List, ◌≡◌, ℕ};
 ghost use Rattle.endian.specs.Loops.{cat};
 ghost use Rattle.record.specs.declared.Record.{Record};
