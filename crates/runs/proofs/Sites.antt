@@ -12,7 +12,9 @@ use Rattle.cube.specs.Regions.{start_of, run_of, place}
 use Rattle.runs.specs.declared.Lattice.{Lattice}
 use Rattle.runs.specs.declared.site.Site.{Site}
 use Rattle.runs.specs.declared.site.View.{View}
-use Rattle.runs.specs.Boxes.{Along}
+use Rattle.runs.specs.declared.parts.Parts.{Parts}
+use Rattle.runs.specs.declared.site.Span.{Span}
+use Rattle.runs.specs.Views.{Through}
 use Rattle.runs.specs.Runs.{lattice_of, Placed}
 use Rattle.runs.proofs.Boxes.{along}
 use Rattle.runs.proofs.Lattices.{side-pos, Numbers, numbers}
@@ -56,11 +58,11 @@ count_on q (suc zero) = q.count1
 count_on q (suc (suc zero)) = q.count2
 count_on q (suc (suc (suc d))) = 0
 
--- a turn of the walk along a direction, from at on: the c samples that lie in the brick of the first
-pub record Turn (v : View) (d at c : ℕ) : Type 0 where
-  pub along : Along v.site.record.now v.site.region.now d at c
-  pub some : 0 < c
-  pub next : at + c ≤ count_on v.site.lattice d
+-- an iterator over the parts of a direction of the view, wherever it stands
+pub record PartsOf (v : View) (d : ℕ) (p : Parts) : Type 0 where
+  pub start : p.start ≡ start_on v.site.lattice d
+  pub side : p.side ≡ side_on v.site.lattice d
+  pub end : p.end ≡ count_on v.site.lattice d
 
 module _ (v : View) where
   abbrev grid : Lattice
@@ -74,12 +76,16 @@ module _ (v : View) where
   some_of : (0 < grid.count0) × (0 < grid.count1) × (0 < grid.count2)
   some_of = let n = counts _ _ _ _ v.ready in let s = v.some in (omega (arith, n, s.inline), omega (arith, n, s.crossline), omega (arith, n, s.vertical))
 
-  -- what `left` asks
-  pub asks_on : (d : ℕ) {at : ℕ} → at < count_on grid d → (side_ok (side_on grid d) ≡ true) × (start_on grid d + at < 4294967296)
-  asks_on zero {at} h = let n = numbers_from at 0 0 h some_of.1 some_of.2 in (n.ok0, omega (arith, n.at0))
-  asks_on (suc zero) {at} h = let n = numbers_from 0 at 0 some_of.0 h some_of.2 in (n.ok1, omega (arith, n.at1))
-  asks_on (suc (suc zero)) {at} h = let n = numbers_from 0 0 at some_of.0 some_of.1 h in (n.ok2, omega (arith, n.at2))
-  asks_on (suc (suc (suc d))) h = absurd (omega arith)
+  -- the numbers at the last sample of each direction
+  last : Numbers grid (grid.count0 - 1) (grid.count1 - 1) (grid.count2 - 1)
+  last = numbers_from _ _ _ (omega (arith, some_of)) (omega (arith, some_of)) (omega (arith, some_of))
+
+  -- what an iterator over a direction's parts asks
+  pub asks_on : (d : ℕ) → d ≤ 2 → (side_ok (side_on grid d) ≡ true) × (start_on grid d + count_on grid d ≤ 4294967296)
+  asks_on zero l = (last.ok0, omega (arith, last.at0))
+  asks_on (suc zero) l = (last.ok1, omega (arith, last.at1))
+  asks_on (suc (suc zero)) l = (last.ok2, omega (arith, last.at2))
+  asks_on (suc (suc (suc d))) l = absurd (omega arith)
 
   -- the numbers are those of the record and of the region
   numbers_on : (d : ℕ) → d ≤ 2
@@ -90,13 +96,11 @@ module _ (v : View) where
   numbers_on (suc (suc zero)) l = rw v.ready.laid (refl, refl, refl)
   numbers_on (suc (suc (suc d))) l = absurd (omega arith)
 
-  -- what `left` answers
-  pub turn_on : (d : ℕ) {at c : ℕ} → d ≤ 2 → at < count_on grid d → c ≡ min (side_on grid d - (start_on grid d + at) % side_on grid d) (count_on grid d - at) → Turn v d at c
-  turn_on d {at} {c} l h e =
+  -- a part that it gives, and where it ends
+  pub turn_on : (d : ℕ) {p : Parts} (x : Span) → d ≤ 2 → PartsOf v d p → p.at < p.end → x.at ≡ p.at → x.n ≡ min (p.side - (p.start + p.at) % p.side) (p.end - p.at) → Through v d x
+  turn_on d {p} x l c h a e =
       let n = numbers_on d l in
-      let t = along _ _ d at (count_on grid d) c (rw n.0 at (side-pos _ (asks_on d h).0)) h n.2 (rw (← n.0, ← n.1) e) in
-      record { along = t; some = t.some; next = rw n.2 t.within }
+      rw a (along _ _ d p.at p.end x.n (rw (← n.0, ← c.side) (side-pos _ p.ok.0)) h (c.end ∙ n.2) (rw (← n.0, ← n.1, ← c.start, ← c.side) e))
 
-  -- where it ends
-  pub end_on : (d : ℕ) {at : ℕ} → d ≤ 2 → at ≡ count_on grid d → at ≡ run_of v.site.region.now d
-  end_on d l e = e ∙ (numbers_on d l).2
+  pub end_on : (d : ℕ) {p : Parts} → d ≤ 2 → PartsOf v d p → p.at ≡ p.end → p.at ≡ run_of v.site.region.now d
+  end_on d l c e = e ∙ c.end ∙ (numbers_on d l).2

@@ -12,6 +12,7 @@ use geometry::{Level, Volume};
 use record::{Description, Record, width_of};
 use table::{Table, table_in};
 
+pub mod parts;
 pub mod site;
 pub mod walk;
 

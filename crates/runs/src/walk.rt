@@ -1,6 +1,4 @@
-// A region read brick by brick: the bricks that it touches, each once for some of its inlines, and of each brick one box. The loops go on by
-// what `left` or `at_once` answers, a step that differs from turn to turn, which no range or `step_by` has: an iterator of such parts would have to
-// be written and proved, and would say no more.
+// A region read brick by brick: the bricks that it touches, each once for some of its inlines, and of each brick one box.
 ghost use Rattle.std.specs.Prelude.{List, ◌≡◌, ℕ, ◌*◌, length};
 ghost use Rattle.endian.specs.Loops.{cat};
 ghost use Rattle.record.specs.declared.Record.{Record};
@@ -10,8 +8,9 @@ ghost use Rattle.cube.specs.Regions.{run_of};
 ghost use Rattle.runs.specs.Views.{whole, only, Through, InBrick, IsCorner, IsRowCorner, Roomy, Filled};
 ghost use Rattle.runs.specs.Readers.{ItemsLaws, IsRun};
 
+use crate::at_once;
+use crate::parts::Parts;
 use crate::site::{BrickBox, Corner, Span, View};
-use crate::{at_once, left};
 
 // What samples are read as: what they become, and how the items of a brick are read.
 pub trait Items {
@@ -113,13 +112,8 @@ fn read_boxes<R: Reader>(out: &mut [R::Element], v: &View, reader: &R, i: Span, 
     ensures { Filled R.width R.sample v.now i j (whole v.now 2) out.old out.new }
 {
     let q = v.site.lattice;
-    let n = q.count2;
-    let mut k = 0;
-    while k < n {
-        let nk = left(q.start2, k, q.side2, n - k);
-        let down = Span { at: k, n: nk };
+    for down in Parts::new(q.start2, q.side2, q.count2) {
         reader.read_box(out, v, BrickBox { i, j, k: down });
-        k += nk;
     }
 }
 
@@ -130,12 +124,13 @@ fn read_column<R: Reader>(out: &mut [R::Element], v: &View, reader: &R, i: Span,
     requires through { Through v.now 0 i × Through v.now 1 j }
     ensures { Filled R.width R.sample v.now i j (whole v.now 2) out.old out.new }
 {
-    let mut t = 0;
-    while t < i.n {
-        let c = at_once(j.n, i.n - t);
-        let some = Span { at: i.at + t, n: c };
+    let step = at_once(j.n, i.n);
+    for t in (0..i.n).step_by(step) {
+        let some = Span {
+            at: i.at + t,
+            n: step.min(i.n - t),
+        };
         read_boxes(out, v, reader, some, j);
-        t += c;
     }
 }
 
@@ -147,13 +142,8 @@ fn read_columns<R: Reader>(out: &mut [R::Element], v: &View, reader: &R, i: Span
     ensures { Filled R.width R.sample v.now i (whole v.now 1) (whole v.now 2) out.old out.new }
 {
     let q = v.site.lattice;
-    let n = q.count1;
-    let mut j = 0;
-    while j < n {
-        let nj = left(q.start1, j, q.side1, n - j);
-        let across = Span { at: j, n: nj };
+    for across in Parts::new(q.start1, q.side1, q.count1) {
         read_column(out, v, reader, i, across);
-        j += nj;
     }
 }
 
@@ -165,12 +155,7 @@ pub fn read_bricks<R: Reader>(out: &mut [R::Element], v: &View, reader: &R)
         R.sample v.now.site.record.now v.now.file.now v.now.site.region.now x y z))) }
 {
     let q = v.site.lattice;
-    let n = q.count0;
-    let mut i = 0;
-    while i < n {
-        let ni = left(q.start0, i, q.side0, n - i);
-        let along = Span { at: i, n: ni };
+    for along in Parts::new(q.start0, q.side0, q.count0) {
         read_columns(out, v, reader, along);
-        i += ni;
     }
 }

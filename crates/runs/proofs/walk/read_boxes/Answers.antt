@@ -6,28 +6,22 @@ use Rattle.runs.proofs.Boxes.{boxed_more2}
 use Rattle.runs.proofs.Sites.{asks_on, turn_on, end_on}
 use Rattle.runs.proofs.walk.read_boxes.Goals as goal
 
-pub left-nk-requires : goal.left-nk-requires
-left-nk-requires g c = asks_on c.args.v.now 2 c.loop-k-test.true
+pub new-down-items-requires : goal.new-down-items-requires
+new-down-items-requires g c = asks_on c.args.v.now 2 (omega arith)
 
-pub read_box-requires : goal.read_box-requires
-read_box-requires g c =
-    record {
-      fits = c.requires.fits;
-      room = c.loop-k.invariant.0.size ∙ c.requires.room;
-      in_brick = record { inline = c.requires.through.0; crossline = c.requires.through.1; vertical = (turn_on c.args.v.now 2 (omega arith) c.loop-k-test.true c.left-nk.ensures).along };
-    }
+pub read_box-requires-clause-in_brick : goal.read_box-requires-clause-in_brick
+read_box-requires-clause-in_brick g c =
+    let x = c.in-Some.ensures.steps.3 in
+    record { inline = c.requires.through.0; crossline = c.requires.through.1; vertical = turn_on c.args.v.now 2 _ (omega arith) c.loop-down.invariant.1 x.0 x.1 x.2 }
 
-pub overflow_add-k : goal.overflow_add-k
-overflow_add-k g c = omega (arith, turn_on c.args.v.now 2 (omega arith) c.loop-k-test.true c.left-nk.ensures, c)
-
-pub loop-k-smaller : goal.loop-k-smaller
-loop-k-smaller g c = omega (arith, turn_on c.args.v.now 2 (omega arith) c.loop-k-test.true c.left-nk.ensures)
-
-pub loop-k-preserved : goal.loop-k-preserved
-loop-k-preserved g c =
-    (boxed_more2 c.loop-k.invariant.0 (rw zero-add c.read_box.ensures), omega (arith, turn_on c.args.v.now 2 (omega arith) c.loop-k-test.true c.left-nk.ensures))
+pub loop-down-preserved : goal.loop-down-preserved
+loop-down-preserved g c =
+    let s = c.in-Some.ensures.steps in
+    let x = s.3 in
+    let was = c.loop-down.invariant in
+    (rw x.3 (boxed_more2 was.0 (rw (zero-add, ← x.1) c.read_box.ensures)), record { start = s.0 ∙ was.1.start; side = s.1 ∙ was.1.side; end = s.2 ∙ was.1.end })
 
 pub returns : goal.returns
 returns g c =
-    let e : c.loop-k.k ≡ run_of c.args.v.now.site.region.now 2 = end_on c.args.v.now 2 (omega arith) (omega arith) in
-    rw e at c.loop-k.invariant.0
+    let e : c.loop-down.down-iterator.at ≡ run_of c.args.v.now.site.region.now 2 = end_on c.args.v.now 2 (omega arith) c.loop-down.invariant.1 c.in-None.ensures.steps.3 in
+    rw e at c.loop-down.invariant.0

@@ -6,24 +6,22 @@ use Rattle.runs.proofs.Boxes.{boxed_more0, boxed_all}
 use Rattle.runs.proofs.Sites.{asks_on, turn_on, end_on}
 use Rattle.runs.proofs.walk.read_bricks.Goals as goal
 
-pub left-ni-requires : goal.left-ni-requires
-left-ni-requires g c = asks_on c.args.v.now 0 c.loop-i-test.true
+pub new-along-items-requires : goal.new-along-items-requires
+new-along-items-requires g c = asks_on c.args.v.now 0 (omega arith)
 
-pub read_columns-requires : goal.read_columns-requires
-read_columns-requires g c =
-    record { fits = c.requires.fits; room = c.loop-i.invariant.0.size ∙ c.requires.room; through = (turn_on c.args.v.now 0 (omega arith) c.loop-i-test.true c.left-ni.ensures).along }
+pub read_columns-requires-clause-through : goal.read_columns-requires-clause-through
+read_columns-requires-clause-through g c =
+    let x = c.in-Some.ensures.steps.3 in
+    turn_on c.args.v.now 0 _ (omega arith) c.loop-along.invariant.1 x.0 x.1 x.2
 
-pub overflow_add-i : goal.overflow_add-i
-overflow_add-i g c = omega (arith, turn_on c.args.v.now 0 (omega arith) c.loop-i-test.true c.left-ni.ensures, c)
-
-pub loop-i-smaller : goal.loop-i-smaller
-loop-i-smaller g c = omega (arith, turn_on c.args.v.now 0 (omega arith) c.loop-i-test.true c.left-ni.ensures)
-
-pub loop-i-preserved : goal.loop-i-preserved
-loop-i-preserved g c =
-    (boxed_more0 c.loop-i.invariant.0 (rw zero-add c.read_columns.ensures), omega (arith, turn_on c.args.v.now 0 (omega arith) c.loop-i-test.true c.left-ni.ensures))
+pub loop-along-preserved : goal.loop-along-preserved
+loop-along-preserved g c =
+    let s = c.in-Some.ensures.steps in
+    let x = s.3 in
+    let was = c.loop-along.invariant in
+    (rw x.3 (boxed_more0 was.0 (rw (zero-add, ← x.1) c.read_columns.ensures)), record { start = s.0 ∙ was.1.start; side = s.1 ∙ was.1.side; end = s.2 ∙ was.1.end })
 
 pub returns : goal.returns
 returns g c =
-    let e : c.loop-i.i ≡ run_of c.args.v.now.site.region.now 0 = end_on c.args.v.now 0 (omega arith) (omega arith) in
-    boxed_all c.requires.room (rw e at c.loop-i.invariant.0)
+    let e : c.loop-along.along-iterator.at ≡ run_of c.args.v.now.site.region.now 0 = end_on c.args.v.now 0 (omega arith) c.loop-along.invariant.1 c.in-None.ensures.steps.3 in
+    boxed_all c.requires.room (rw e at c.loop-along.invariant.0)

@@ -6,24 +6,22 @@ use Rattle.runs.proofs.Boxes.{boxed_more1}
 use Rattle.runs.proofs.Sites.{asks_on, turn_on, end_on}
 use Rattle.runs.proofs.walk.read_columns.Goals as goal
 
-pub left-nj-requires : goal.left-nj-requires
-left-nj-requires g c = asks_on c.args.v.now 1 c.loop-j-test.true
+pub new-across-items-requires : goal.new-across-items-requires
+new-across-items-requires g c = asks_on c.args.v.now 1 (omega arith)
 
-pub read_column-requires : goal.read_column-requires
-read_column-requires g c =
-    record { fits = c.requires.fits; room = c.loop-j.invariant.0.size ∙ c.requires.room; through = (c.requires.through, (turn_on c.args.v.now 1 (omega arith) c.loop-j-test.true c.left-nj.ensures).along) }
+pub read_column-requires-clause-through : goal.read_column-requires-clause-through
+read_column-requires-clause-through g c =
+    let x = c.in-Some.ensures.steps.3 in
+    (c.requires.through, turn_on c.args.v.now 1 _ (omega arith) c.loop-across.invariant.1 x.0 x.1 x.2)
 
-pub overflow_add-j : goal.overflow_add-j
-overflow_add-j g c = omega (arith, turn_on c.args.v.now 1 (omega arith) c.loop-j-test.true c.left-nj.ensures, c)
-
-pub loop-j-smaller : goal.loop-j-smaller
-loop-j-smaller g c = omega (arith, turn_on c.args.v.now 1 (omega arith) c.loop-j-test.true c.left-nj.ensures)
-
-pub loop-j-preserved : goal.loop-j-preserved
-loop-j-preserved g c =
-    (boxed_more1 c.loop-j.invariant.0 (rw zero-add c.read_column.ensures), omega (arith, turn_on c.args.v.now 1 (omega arith) c.loop-j-test.true c.left-nj.ensures))
+pub loop-across-preserved : goal.loop-across-preserved
+loop-across-preserved g c =
+    let s = c.in-Some.ensures.steps in
+    let x = s.3 in
+    let was = c.loop-across.invariant in
+    (rw x.3 (boxed_more1 was.0 (rw (zero-add, ← x.1) c.read_column.ensures)), record { start = s.0 ∙ was.1.start; side = s.1 ∙ was.1.side; end = s.2 ∙ was.1.end })
 
 pub returns : goal.returns
 returns g c =
-    let e : c.loop-j.j ≡ run_of c.args.v.now.site.region.now 1 = end_on c.args.v.now 1 (omega arith) (omega arith) in
-    rw e at c.loop-j.invariant.0
+    let e : c.loop-across.across-iterator.at ≡ run_of c.args.v.now.site.region.now 1 = end_on c.args.v.now 1 (omega arith) c.loop-across.invariant.1 c.in-None.ensures.steps.3 in
+    rw e at c.loop-across.invariant.0
