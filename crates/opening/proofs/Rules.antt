@@ -1,5 +1,6 @@
 -- Opening takes exactly the cubes, and its record passes check 14. Assumes nothing.
 use mathlib.Core.Bool.{Bool, true, false, not, cond, ◌&&◌, ◌||◌, false≢true}
+use Rattle.std.proofs.lemmas.Bool.{or_right}
 use mathlib.Core.List.{List, [], ◌∷◌}
 use mathlib.Core.Logic.{◌⊎◌, inl, inr, ⊎_elim}
 use mathlib.Core.Path.{◌≡◌, refl, sym, subst, ap, ◌∙◌}
@@ -141,10 +142,6 @@ range-is : (min max : ℕ) → CodingRange min max → range_ok min max ≡ true
 unfolding range_ok
 range-is min max r =
     simp (from_truth (finite_bits min) r.min-finite, from_truth (finite_bits max) r.max-finite, from_truth (lt (of_bits binary32 min) (of_bits binary32 max)) r.below)
-
-or_right : (a b : Bool) → b ≡ true → a || b ≡ true
-or_right true b e = refl
-or_right false b e = e
 
 module _ (d : Description) where
   rule4_of : breaks4 d ≡ false → (i : ℕ) → i < 3 → Side (side_of d i)
