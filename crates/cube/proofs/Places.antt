@@ -16,6 +16,7 @@ use Rattle.record.specs.declared.Record.{Record}
 use Rattle.checks.proofs.Described.{described_sized}
 use Rattle.checks.proofs.Records.{Fit}
 use Rattle.table.specs.declared.Kind.TheVariants.{Stored}
+use Rattle.table.proofs.Words.{same_offset}
 use Rattle.cube.specs.Places.{Place, item_bytes, kind_in, entry_in, brick_of, item_no, byte_of, Inside, Extent}
 use Rattle.cube.proofs.Valid.{headers, entries, brick_length, Valid}
 
@@ -31,9 +32,6 @@ place_dec p q = go (ℕ_discrete p.lvl q.lvl) (ℕ_discrete p.i q.i) (ℕ_discre
     go (yes l) (yes a) (no n) c = no (λ e. n (ap (λ (x : Place). x.j) e))
     go (yes l) (no n) b c = no (λ e. n (ap (λ (x : Place). x.i) e))
     go (no n) a b c = no (λ e. n (ap (λ (x : Place). x.lvl) e))
-
-pub stored_inj : {o o' : ℕ} → Stored o ≡ Stored o' → o ≡ o'
-stored_inj e = cc
 
 module _ (r : Record) where
   -- the bytes of p, in a brick at o, and those of q, in one at o', have none in common
@@ -130,7 +128,7 @@ module _ (r : Record) (f : List ℕ) (v : Valid r f) where
 
       go : Dec (brick_of r p ≡ brick_of r q) → Apart r o p o' q
       go (yes b) =
-          let same : o ≡ o' = stored_inj (sym e ∙ ap (kind_in r f) b ∙ e') in
+          let same : o ≡ o' = same_offset _ _ (sym e ∙ ap (kind_in r f) b ∙ e') in
           subst (λ (x : ℕ). Apart r o p x q) same (items_apart r ok o p q (λ i. ne (place_inj r ok p q hp hq b i)))
       go (no n) = bricks (v.apart (brick_of r p) (brick_of r q) o o' (brick-lt r ok p hp) (brick-lt r ok q hq) n e e')
 

@@ -15,10 +15,11 @@ use Rattle.checks.proofs.Records.{Fit}
 use Rattle.cube.specs.declared.Region.{Region}
 use Rattle.cube.specs.Places.{bytes, item_bytes, brick_of, byte_of, row_in, rows_of}
 use Rattle.table.specs.Entries.{offset_in}
+use Rattle.table.proofs.Words.{same_offset}
 use Rattle.cube.specs.Regions.{size_of, place_at, chunk, place_byte, store, written}
 use Rattle.cube.specs.Written.{WrittenBytes}
 use Rattle.cube.proofs.Valid.{Valid}
-use Rattle.cube.proofs.Places.{stored_inj, item-fits, brick-lt}
+use Rattle.cube.proofs.Places.{item-fits, brick-lt}
 use Rattle.cube.proofs.Regions.{digits_in, Held, Covered}
 use Rattle.cube.proofs.Writes.{Kept, kept_refl, kept_kind, held_at, chunk_full, has_at, index_at, written_rule, step_kept, store_at, written-kept, written-rows}
 
@@ -80,7 +81,7 @@ module _ (r : Record) (f : List ℕ) (v : Valid r f) (g : Region) (d : List ℕ)
           let full : length c ≡ item_bytes r = chunk_full r g d room t l in
           let here : Held r h (place_at g t) = held_at r ok f g d room cov h K t l in
           let o : ℕ = here.offset in
-          let same : o ≡ (at t l).offset = stored_inj (sym here.at_offset ∙ kept_kind r f h K (brick_of r (place_at g t)) (brick-lt r ok (place_at g t) (at t l).placed) ∙ (at t l).at_offset) in
+          let same : o ≡ (at t l).offset = same_offset _ _ (sym here.at_offset ∙ kept_kind r f h K (brick_of r (place_at g t)) (brick-lt r ok (place_at g t) (at t l).placed) ∙ (at t l).at_offset) in
           ap (λ (y : List ℕ). get_or y x 0) (store_at r ok h (place_at g t) here c full)
           ∙ put_other h (byte_of r o (place_at g t)) c (omega (arith, full, item-fits r ok o (place_at g t), here.high)) x (λ b lb e. far t b l (omega arith) (e ∙ ap (λ (n : ℕ). byte_of r n (place_at g t) + b) same ∙ ap (λ (n : ℕ). n + b) (sym (place_byte_lem t l))))
 

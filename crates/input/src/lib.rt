@@ -23,10 +23,7 @@ pub fn read_full<R: Read>(from: &mut R, out: &mut [u8]) -> (usize, io::Result<()
     ensures end { OnOk result.1 (result.0 < length out.new → IsAtEnd (R.remaining from.new)) }
 {
     let mut done = 0;
-    for _ in 0..out.len() {
-        if done == out.len() {
-            break;
-        }
+    while done < out.len() {
         match from.read(&mut out[done..]) {
             Ok(0) => return (done, Ok(())),
             Ok(n) => done += n,

@@ -18,6 +18,7 @@ fn list_named(rt: &(impl Files + Print + Eprint), name: &[u8]) -> io::Result<()>
 
 fn main(rt: HostRuntime) -> io::Result<()> {
     let mut buffer = [0u8; LONGEST_NAME];
+    // By their numbers: std's iterator of arguments copies all onto the heap, and gives none where one of them is not text.
     for i in 1..usize::MAX {
         let Some(name) = argument(&rt, i, &mut buffer) else {
             break;

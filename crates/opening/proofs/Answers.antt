@@ -1,7 +1,7 @@
 -- Opening's answer from the verdicts of its parts. Assumes nothing.
-use mathlib.Core.Bool.{true, false}
+use mathlib.Core.Bool.{Bool, true, false}
 use mathlib.Core.List.{List}
-use mathlib.Core.Path.{◌≡◌, sym}
+use mathlib.Core.Path.{◌≡◌, sym, ap, ◌∙◌}
 use Prim.Native.Nat.{ℕ, ◌≤◌, ◌<◌}
 use lib.ListN.{length}
 use borrow.Author.Tests.{lt-ltb, le-ltb}
@@ -16,6 +16,10 @@ use Rattle.checks.specs.Checks.{breaks11}
 use Rattle.table.specs.Entries.{breaks12, breaks13}
 use Rattle.opening.specs.Opening.{length_verdict, text_verdict, range_verdict, overlap_verdict, entries_verdict, body_verdict, header_verdict, open_verdict, record_in, opened_of}
 use Rattle.record.specs.declared.Refusal.TheVariants as refusal
+
+-- what a test of x says of y, which x is
+pub judged : {A : Type 0} (p : A → Bool) {x y : A} {b t : Bool} → b ≡ p x → x ≡ y → b ≡ t → p y ≡ t
+judged p e is r = sym (e ∙ ap p is) ∙ r
 
 module _ (r : Record) (f : List ℕ) where
   pub body_10 : length f < header_of r.description r.text → refused refusal.Headers ≡ body_verdict r f

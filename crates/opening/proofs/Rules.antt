@@ -1,8 +1,10 @@
 -- Opening takes exactly the cubes, and its record passes check 14. Assumes nothing.
 use mathlib.Core.Bool.{Bool, true, false, not, cond, ◌&&◌, ◌||◌, false≢true}
+use Rattle.std.proofs.lemmas.Bool.{or_right}
+use Rattle.std.proofs.lemmas.Float.{T_from_true}
 use mathlib.Core.List.{List, [], ◌∷◌}
 use mathlib.Core.Logic.{◌⊎◌, inl, inr, ⊎_elim}
-use mathlib.Core.Path.{◌≡◌, refl, sym, subst, ap, ◌∙◌}
+use mathlib.Core.Path.{◌≡◌, refl, sym, ap, ◌∙◌}
 use Prim.Native.Nat.{ℕ, zero, suc, ◌+◌, ◌-◌, ◌≤◌, ◌<◌}
 use native.Mathlib.Omega.{arith}
 use lib.Dec.{T, eqb, ltb}
@@ -92,9 +94,6 @@ passed_opened f p =
     simp (le-ltb _ _ h.long, h.not2, h.not3, described-is _ _ h.is-described, le-ltb _ _ p.long, p.not11, no12, no13)
 
 -- ---- each check and its rule
-
-truth : (b : Bool) → b ≡ true → T b
-truth b e = subst T (sym e) tt
 
 from_truth : (b : Bool) → T b → b ≡ true
 from_truth true t = refl
@@ -189,8 +188,8 @@ module _ (d : Description) where
       let f = finites d e in
       let o = all3-each finite_bits d.orig f.origs in
       let n = all3-each finite_bits d.inc f.incs in (
-        each_of (λ i. Finite (get_or d.orig i 0) × Finite (get_or d.inc i 0)) (truth _ o.0, truth _ n.0) (truth _ o.1, truth _ n.1) (truth _ o.2, truth _ n.2),
-        ⊎_elim (λ (q : eqb d.datatype 6 ≡ true). inl (eqb-true d.datatype 6 q)) (λ (q : range_ok (get_or d.range 0 0) (get_or d.range 1 0) ≡ true). let r = range-finite _ _ q in inr (record { min-finite = truth _ r.0; max-finite = truth _ r.1; below = truth _ r.2 })) f.coded,
+        each_of (λ i. Finite (get_or d.orig i 0) × Finite (get_or d.inc i 0)) (T_from_true _ o.0, T_from_true _ n.0) (T_from_true _ o.1, T_from_true _ n.1) (T_from_true _ o.2, T_from_true _ n.2),
+        ⊎_elim (λ (q : eqb d.datatype 6 ≡ true). inl (eqb-true d.datatype 6 q)) (λ (q : range_ok (get_or d.range 0 0) (get_or d.range 1 0) ≡ true). let r = range-finite _ _ q in inr (record { min-finite = T_from_true _ r.0; max-finite = T_from_true _ r.1; below = T_from_true _ r.2 })) f.coded,
       )
 
   rule7-is : ((i : ℕ) → i < 3 → Finite (get_or d.orig i 0) × Finite (get_or d.inc i 0))

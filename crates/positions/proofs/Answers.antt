@@ -1,7 +1,7 @@
 -- The answers of position, and that the grid of a record that passes check 14 is finite. Assumes nothing.
 use mathlib.Core.Bool.{true, false, ◌&&◌}
 use mathlib.Core.List.{List}
-use mathlib.Core.Path.{◌≡◌, sym, ◌∙◌}
+use mathlib.Core.Path.{◌≡◌, sym}
 use Prim.Native.Nat.{ℕ, ◌≤◌, ◌<◌}
 use native.Mathlib.Omega.{arith}
 use lib.Dec.{T}
@@ -59,11 +59,11 @@ module _ (r : Record) (e : breaks14 r ≡ false) where
 -- ---- the answer by its cases, and its promise
 module _ (r : Record) (k i : ℕ) where
   abbrev Promised : Result Float Refusal → Type 0
-  Promised a = (a ≡ position_answer r k i) × PositionNear r k i a
+  Promised a = record { answer : a ≡ position_answer r k i; near : PositionNear r k i a }
 
   refused-is : (x : Refusal) → position_answer r k i ≡ Err x → Promised (Err x)
   unfolding PositionNear
-  refused-is x e = (sym e, λ y t. let z : ◌≡◌ {A = ℕ} 0 1 = cc in absurd (omega arith))
+  refused-is x e = record { answer = sym e; near = λ y t. let z : ◌≡◌ {A = ℕ} 0 1 = cc in absurd (omega arith) }
 
   pub breaks_14 : breaks14 r ≡ true → Promised (Err refusal.Record)
   unfolding position_answer
@@ -80,4 +80,7 @@ module _ (r : Record) (k i : ℕ) where
   pub inside : (x : Float) → breaks14 r ≡ false → k < 3 → i < size_of r.description k
       → (x ≡ position_of (orig_in r k) (inc_in r k) i) × Near (orig_in r k) (inc_in r k) i x → Promised (Ok x)
   unfolding position_answer PositionNear
-  inside x e h g p = (simp (e, lt-leb 3 k h, lt-leb (size_of r.description k) i g, p.0), λ y t. let q : x ≡ y = cc in rw q at p.1)
+  inside x e h g p = record {
+    answer = simp (e, lt-leb 3 k h, lt-leb (size_of r.description k) i g, p.0);
+    near = λ y t. let q : x ≡ y = cc in rw q at p.1;
+  }

@@ -15,11 +15,8 @@ pub fn position(r: Record, dimension: u32, index: u32) -> Result<f64, Refusal>
     if check14(r) {
         return Err(Refusal::Record);
     }
-    if 3 <= dimension {
-        return Err(Refusal::Index);
-    }
     let along = dimension as usize;
-    if r.description.size[along] <= index {
+    if 3 <= dimension || r.description.size[along] <= index {
         return Err(Refusal::Index);
     }
     let orig = r.grid.orig[along];

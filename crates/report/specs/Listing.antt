@@ -8,7 +8,7 @@ use Rattle.record.specs.declared.Coding.{Coding}
 use Rattle.record.specs.declared.Coding.TheVariants.{Scaled, Float32}
 use Rattle.record.specs.declared.Record.{Record}
 use Rattle.record.specs.declared.Refusal.{Refusal}
-use Rattle.record.specs.Answers.{Verdict, number, entry, Taken, refused}
+use Rattle.record.specs.Answers.{Verdict, number, entry}
 use Rattle.record.specs.declared.Refusal.TheVariants as case
 use Rattle.table.specs.declared.Kind.{Kind}
 use Rattle.table.specs.declared.Kind.TheVariants.{Missing, Constant, Stored}

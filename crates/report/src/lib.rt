@@ -37,9 +37,9 @@ fn number_line(out: &mut Writer, word: &[u8], n: u64)
 fn three_line(out: &mut Writer, word: &[u8], ns: [u32; 3])
     ensures { Writes out.old (three_line word.now ns) out.new }
 {
-    numbered(out, word, ns[0] as u64);
-    numbered(out, b" ", ns[1] as u64);
-    number_line(out, b" ", ns[2] as u64);
+    numbered(out, word, u64::from(ns[0]));
+    numbered(out, b" ", u64::from(ns[1]));
+    number_line(out, b" ", u64::from(ns[2]));
 }
 
 // The one line of a refusal.
@@ -55,12 +55,12 @@ fn header_lines(out: &mut Writer, r: Record)
     ensures { Writes out.old (header_lines r) out.new }
 {
     let d = r.description;
-    number_line(out, b"version ", r.version as u64);
-    number_line(out, b"type ", d.datatype as u64);
+    number_line(out, b"version ", u64::from(r.version));
+    number_line(out, b"type ", u64::from(d.datatype));
     three_line(out, b"brick ", d.side);
     three_line(out, b"size ", d.size);
-    number_line(out, b"levels ", r.levels as u64);
-    number_line(out, b"bricks ", r.bricks as u64);
+    number_line(out, b"levels ", u64::from(r.levels));
+    number_line(out, b"bricks ", u64::from(r.bricks));
     number_line(out, b"header ", r.header);
 }
 
@@ -70,8 +70,7 @@ fn constant_text(out: &mut Writer, datatype: u8, value: u32)
 {
     match coding_of(datatype) {
         Ok(Coding::Scaled { half, .. }) => out.push_signed(value, half),
-        Ok(Coding::Float32 { .. }) => out.push_decimal(value as u64),
-        Err(_) => out.push_decimal(value as u64),
+        Ok(Coding::Float32 { .. }) | Err(_) => out.push_decimal(u64::from(value)),
     }
 }
 

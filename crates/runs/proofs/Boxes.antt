@@ -19,7 +19,7 @@ use Rattle.endian.proofs.Cats.{cat-same, length-cat, cat-cat, cat_part}
 use Rattle.record.specs.Record.{side_of}
 use Rattle.record.specs.declared.Record.{Record}
 use Rattle.checks.proofs.Records.{Fit}
-use Rattle.table.proofs.Search.{is_false}
+use Rattle.std.proofs.lemmas.Bool.{false_from_ne_true}
 use Rattle.cube.specs.declared.Region.{Region}
 use Rattle.cube.specs.Places.{brick_of, item_no}
 use Rattle.cube.specs.Regions.{start_of, run_of, place, between}
@@ -33,7 +33,7 @@ between-yes : (a c x : ℕ) → a ≤ x → x < a + c → between a c x ≡ true
 between-yes a c x h k = simp (le-leb a x h, lt-ltb x (a + c) k)
 
 between_no : (a c x : ℕ) → (a ≤ x → x < a + c → ⊥) → between a c x ≡ false
-between_no a c x f = is_false (between a c x) (λ e. let h = between-true a c x e in f h.0 h.1)
+between_no a c x f = false_from_ne_true (between a c x) (λ e. let h = between-true a c x e in f h.0 h.1)
 
 -- a run with more after it
 between_more : (a c d x : ℕ) → between a (c + d) x ≡ between a c x || between (a + c) d x
@@ -172,7 +172,7 @@ module _ {A : Type 0} {w l m n : ℕ} {g : ℕ → ℕ → ℕ → List A} where
     part_room = omega (arith, mul-le-mul_right w room, add-mul t0 c w)
 
     part_else : (x y z : ℕ) → z < n → (t0 ≤ tri m n x y z → tri m n x y z < t0 + c → ⊥) → in_box i ni j nj k nk x y z ≡ false
-    part_else x y z hz f = is_false (in_box i ni j nj k nk x y z) (λ b. let o = only x y z hz (box_within i ni j nj k nk x y z b) in f o.0 o.1)
+    part_else x y z hz f = false_from_ne_true (in_box i ni j nj k nk x y z) (λ b. let o = only x y z hz (box_within i ni j nj k nk x y z b) in f o.0 o.1)
 
     part_item : (x y z : ℕ) → x < l → y < m → z < n → Dec (tri m n x y z < t0) → Dec (tri m n x y z < t0 + c)
         → item_at w (put_mid a (e - a) d ys) (tri m n x y z) ≡ cond (in_box i ni j nj k nk x y z) (g x y z) (item_at w d (tri m n x y z))

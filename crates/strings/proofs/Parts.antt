@@ -1,24 +1,21 @@
 -- The string that a turn hands out: the n-th, and a part of the file. Assumes nothing.
-use mathlib.Core.Bool.{Bool, true, false, cond}
 use mathlib.Core.List.{List, []}
 use mathlib.Core.Option as math
 use mathlib.Core.Path.{◌≡◌, refl, sym, ap, ◌∙◌}
 use Prim.Native.Nat.{ℕ, ◌+◌, ◌-◌, ◌≤◌}
 use native.Mathlib.Decide.{dec_le}
 use native.Mathlib.Omega.{arith}
-use lib.Dec.{ltb}
 use lib.ListN.{get_or, length}
 use Rattle.geometry.specs.Limits.{text_start}
 use Rattle.endian.specs.Bytes.{peek}
 use Rattle.endian.proofs.Puts.{peek_part, length-peek}
 use Rattle.record.specs.declared.Record.{Record}
-use Rattle.record.specs.Answers.{Verdict, Taken, refused, verdict_of, answered}
-use Rattle.strings.specs.Strings.{strings_verdict, text_in, end_of, string_at, turn_of, turn_string, place_of, turn_in, strings_of, item}
+use Rattle.record.specs.Answers.{Verdict, Taken, verdict_of, answered}
+use Rattle.strings.specs.Strings.{strings_verdict, text_in, string_at, turn_of, turn_string, place_of, turn_in, strings_of, item}
 use Rattle.strings.specs.declared.Item.{Item}
 use Rattle.record.specs.declared.Refusal.{Refusal}
-use Rattle.std.specs.Prelude.{Option, Result, Some, None, Ok, Err}
-use Rattle.strings.proofs.Ends.{end_low, end_high}
-use Rattle.strings.proofs.Turns.{turn-item, turn-done, string_done, string_nth, item-found}
+use Rattle.std.specs.Prelude.{Option, Result, Some, Ok, Err}
+use Rattle.strings.proofs.Turns.{turn-item, turn-done, string_done, string_nth, item_within}
 use Rattle.strings.proofs.Verdicts.{text_inside, taken-passes, text_taken, text_refused}
 
 ok-same : {x y : Option Item} → ◌≡◌ {A = Result (Option Item) Refusal} (Ok x) (Ok y) → x ≡ y
@@ -51,7 +48,7 @@ module _ (r : Record) (f : List ℕ) (n : ℕ) where
       go (Err x) e = sym (string_done t at (omega (arith, ap length (text_refused r f x e))))
 
   module _ (start end next : ℕ) (e : Ok (Some (item start end next)) ≡ turn_in r f n) where
-    -- a refused walker hands out no string
+    -- where the walk is refused no string is handed out
     item-taken : strings_verdict r f ≡ Taken
     item-taken = sym (ap verdict_of e ∙ turn_verdict_lem)
 
@@ -59,9 +56,9 @@ module _ (r : Record) (f : List ℕ) (n : ℕ) where
     pub item-inside : (start ≤ end) × (end ≤ r.text) × (text_start + r.text ≤ length f)
     item-inside =
         let i = text_inside r f (taken-passes r f item-taken).0 in
-        let q = item-found t at start end next (ok-same (e ∙ ap (λ (v : Verdict). answered v (turn_of t at)) item-taken)) in
+        let q = item_within t at (ok-same (e ∙ ap (λ (v : Verdict). answered v (turn_of t at)) item-taken)) in
         let s : length t ≡ r.text = ap length (text_taken r f item-taken) ∙ length-peek f text_start r.text i.1 in
-        (omega (arith, end_low t at), omega (arith, end_high t at (omega arith)), i.1)
+        (q.0, omega arith, i.1)
 
     -- the part of the file that a turn names is its string
     pub item_part : peek f (text_start + start) (end - start) ≡ get_or (strings_of t) n []

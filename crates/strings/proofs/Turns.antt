@@ -12,7 +12,7 @@ use borrow.Author.Tests.{lt-ltb, le-ltb}
 use Rattle.strings.specs.Strings.{end_of, string_at, turn_of, place_from, place_of, strings_from, strings_of, item}
 use Rattle.std.specs.Prelude.{Option, Some, None}
 use Rattle.strings.specs.declared.Item.{Item}
-use Rattle.strings.proofs.Ends.{end_low}
+use Rattle.strings.proofs.Ends.{end_low, end_high}
 
 module _ (t : List ℕ) (at : ℕ) where
   pub turn-item : at < length t → turn_of t at ≡ Some (item at (end_of t at) (end_of t at + 1))
@@ -95,6 +95,19 @@ module _ (t : List ℕ) (at : ℕ) where
         | no g ↦
             let q : some_item (Some (item start end next)) ≡ some_item (Some (item at (end_of t at) (end_of t at + 1))) = ap some_item (e ∙ turn-item t at (omega arith)) in
             record { here = omega arith; start_is = ap (λ (x : Item). x.start) q; end_is = ap (λ (x : Item). x.end) q; next_is = ap (λ (x : Item). x.next) q }
+      ]
+
+  pub item_within : {x : Item} → Some x ≡ turn_of t at → (x.start ≤ x.end) × (x.end ≤ length t)
+  item_within {x} e =
+      let p = item-found x.start x.end x.next e in
+      (omega (arith, end_low t at), omega (arith, end_high t at (omega arith)))
+
+  -- a turn that is none
+  pub turn-none : None ≡ turn_of t at → length t ≤ at
+  turn-none e =
+      elim (dec_le (length t) at) [
+        | yes g ↦ g
+        | no g ↦ let q = turn-item t at (omega arith) in let z : ◌≡◌ {A = ℕ} 0 1 = cc in absurd (omega arith)
       ]
 
 -- a turn more leads past the string's zero

@@ -26,7 +26,8 @@ pub struct Item {
     pub next: usize,
 }
 
-// The text section of a cube, once checks 14 and 11 have passed.
+// The text section of a cube, once checks 14 and 11 have passed. Opening makes check 11 of a record that it has just worked out, after check 10, and
+// this one after check 14 of a record that is lent: the two lines between are all that they share.
 fn text_of<'a>(file: &'a [u8], r: Record) -> Result<&'a [u8], Refusal>
     ensures verdict { verdict_of result ≡ strings_verdict r file.now }
     ensures text { IfOk result (λ text. text.now ≡ text_in r file.now) }
@@ -73,11 +74,10 @@ fn turn_at(text: &[u8], at: usize) -> Option<Item>
 fn part_at<'a>(text: &'a [u8], at: usize) -> &'a [u8]
     ensures { result.now ≡ string_at text.now at }
 {
-    if text.len() <= at {
-        return &text[0..0];
+    match turn_at(text, at) {
+        Some(item) => &text[item.start..item.end],
+        None => &text[0..0],
     }
-    let end = end_at(text, at);
-    &text[at..end]
 }
 
 // The place after n turns from the start of a text; fewer where all strings are handed out before.
@@ -86,10 +86,10 @@ fn place_in(text: &[u8], n: u32) -> usize
 {
     let mut at = 0;
     for _ in 0..n {
-        if text.len() <= at {
-            return at;
+        match turn_at(text, at) {
+            Some(item) => at = item.next,
+            None => return at,
         }
-        at = end_at(text, at) + 1;
     }
     at
 }

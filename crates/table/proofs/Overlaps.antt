@@ -2,6 +2,7 @@
 use Rattle.std.specs.Bool.{⊤}
 use Rattle.std.specs.List.{list_any, range_with_len}
 use Rattle.std.specs.Option.{MatchOption, unwrap_or, option_or}
+use Rattle.std.proofs.lemmas.Bool.{false_from_ne_true}
 use Rattle.std.proofs.Common.{Option, Some, None}
 use Rattle.std.proofs.lemmas.Option.{none-some}
 use native.Mathlib.Numerals.{add-one}
@@ -24,12 +25,12 @@ use Rattle.table.specs.declared.Table.{Table}
 use Rattle.table.specs.Entries.{offset_in, stored_in, overlap, overlaps_lower, kind_at, overlaps_at, lowest}
 use Rattle.table.specs.Windows.{offset_at, Near}
 use Rattle.table.proofs.Words.{at_stored, stored_some, same_offset}
-use Rattle.table.proofs.Search.{is_false, lowest-is, lowest-or}
+use Rattle.table.proofs.Search.{lowest-is, lowest-or}
 
 apart_false : (b o p : ℕ) → (o + b ≤ p) ⊎ (p + b ≤ o) → overlap b (Stored o) (Stored p) ≡ false
 unfolding overlap
 apart_false b o p h =
-    is_false (ltb o (p + b) && ltb p (o + b)) (λ e.
+    false_from_ne_true (ltb o (p + b) && ltb p (o + b)) (λ e.
     let q = and_parts (ltb o (p + b)) (ltb p (o + b)) e in
     ⊎_elim (λ (g : o + b ≤ p). omega (arith, ltb-true p (o + b) q.1)) (λ (g : p + b ≤ o). omega (arith, ltb-true o (p + b) q.0)) h)
 
@@ -147,7 +148,7 @@ module _ (t : Table) (f : List ℕ) where
   pub near_no : (l e : ℕ) → (Near t.brick (offset_at t f l) (offset_at t f e) → ⊥) → overlap t.brick (kind_at t f l) (kind_at t f e) ≡ false
   unfolding offset_at
   near_no l e h =
-      is_false (overlap t.brick (kind_at t f l) (kind_at t f e)) (λ q. h (near_fact t.brick (kind_at t f l) (kind_at t f e) (real l) (real e) q))
+      false_from_ne_true (overlap t.brick (kind_at t f l) (kind_at t f e)) (λ q. h (near_fact t.brick (kind_at t f l) (kind_at t f e) (real l) (real e) q))
     where
       real : (i o : ℕ) → kind_at t f i ≡ Stored o → 0 < o
       real i o s = omega (arith, at_stored t f i o s)

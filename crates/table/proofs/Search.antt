@@ -11,11 +11,6 @@ use Rattle.endian.specs.Loops.{first, any}
 use Rattle.endian.proofs.Search.{first-is, first_at, first_before}
 use Rattle.table.specs.Entries.{lowest}
 
--- no truth is falsehood
-pub is_false : (t : Bool) → (t ≡ true → ⊥) → t ≡ false
-is_false true h = absurd (h refl)
-is_false false h = refl
-
 module _ (p : ℕ → Bool) (n : ℕ) where
   -- a search that passes none stops at the end
   pub missed : (m : ℕ) → m ≡ n → ((j : ℕ) → j < m → p j ≡ false) → m ≡ first p n

@@ -34,14 +34,15 @@ pub struct Table {
 // Every stored offset is below this: the top bit marks a constant.
 const END: u64 = 9223372036854775808;
 
-// The table of the cube with this record. That a record's numbers follow from its description stands at each function after the checks, here and
-// in the crates above: a record crosses to C and back, and may be lent in any state.
+// The table of the cube with this record. That a record's numbers follow from its description stands at each function that rests on it, here and in the
+// crates above, and not in the type, since a host may lend a record in any state. Opening has it of the record that it works out, report of the one that
+// opening gives, bricks and regions of a lent one that passed check 14.
 pub fn table_in(r: Record) -> Table
     requires { Derived r }
     ensures { result ≡ table_in r }
 {
     let d = r.description;
-    let start = table_start(r.text as u64, r.alphas as u64) as usize;
+    let start = table_start(u64::from(r.text), u64::from(r.alphas)) as usize;
     Table {
         start,
         count: r.bricks as usize,
@@ -51,8 +52,8 @@ pub fn table_in(r: Record) -> Table
     }
 }
 
-// The number in the low bytes of a word. That a width is 1, 2 or 4 stands at each function that reads or writes items: in a description and a table
-// it is a plain number, and the loops over items have it as a const parameter.
+// The number in the low bytes of a word. That a width is 1, 2 or 4 stands at each function that reads or writes items: a table and a lattice have it as
+// a number, since the format's sums multiply by it, and the loops that fill and gather items have it as a const parameter.
 fn low_bytes(word: u64, width: u32) -> u32
     requires { Width width }
     ensures { result ≡ word % 256 ^ width }
@@ -86,8 +87,8 @@ impl Kind {
     }
 }
 
-// The entries of a table that lies in this file. That an entry is one of them stands at each method: its number comes from a caller, and is a
-// plain number in the table, the records and the calls.
+// The entries of a table that lies in this file. That an entry is one of them stands at each method: an entry's number is counted, compared and
+// answered, and a type of its own would be taken apart at each of these.
 #[derive(Clone, Copy)]
 pub struct Entries<'a> {
     pub file: &'a [u8],
@@ -250,7 +251,7 @@ pub fn kind_at(file: &[u8], t: Table, entry: usize) -> Kind
     Entries { file, table: t }.kind(entry)
 }
 
-// Check 12 of an entry of the table t in this file.
+// Check 12 of an entry of the table t in this file. No crate here calls it: it stays for what it promises, beside `kind_at`.
 pub fn out_of_range(file: &[u8], t: Table, entry: usize) -> bool
     requires { Readable t (length file.now) × (entry < t.count) }
     ensures { result ≡ outside_at t file.now entry }

@@ -7,7 +7,8 @@ ghost use Rattle.text.specs.Text.{decimal, signed_decimal};
 
 // Where bytes go: a lent slice, and the place after what is written. Each call goes on where the one before it ended, and leaves
 // out what does not fit, so whoever makes a writer looks at its place once, at the end. It is no `fmt::Write`: `write!` promises its
-// text only where it answers Ok, and nothing promises that it does, while a listing is promised of every file.
+// text only where it answers Ok, and nothing promises that it does, while a listing is promised of every file. Nor does it take the kit's `itoa`,
+// which needs no heap either: that is one library more for the four lines of `push_decimal`, whose digits the edits `digit` and `base` turn.
 #[derive(Drop)]
 pub struct Writer<'a> {
     out: &'a mut [u8],
@@ -92,12 +93,13 @@ impl<'a> Writer<'a> {
     }
 
     // The signed number of an integer type in decimal, as an item's bytes have it: n is their unsigned number, and half is 128 for
-    // one byte. Of n below twice half, those from half on are below zero.
+    // one byte. Of n below twice half, those from half on are below zero. `Item::signed` of crate floats gives the same number, but asks that n is
+    // below twice half, and half at most 32768: this promises its text of every n and half.
     pub fn push_signed(&mut self, n: u32, half: u32)
         ensures { Writes self.old (signed_decimal (signed_of half n)) self.new }
     {
-        let whole = 2 * half as u64;
-        let bits = n as u64;
+        let whole = 2 * u64::from(half);
+        let bits = u64::from(n);
         if n < half {
             self.push_decimal(bits);
         } else if bits < whole {

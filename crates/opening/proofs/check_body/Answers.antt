@@ -1,12 +1,11 @@
-use mathlib.Core.Path.{◌≡◌, sym, ap, ◌∙◌}
+use mathlib.Core.Path.{◌∙◌}
 use native.Mathlib.Omega.{arith}
 use lib.ListN.{length-take, length-drop}
 use Rattle.record.proofs.Laws.{text_part}
-use Rattle.record.specs.Header.{text_of}
 use Rattle.checks.specs.Checks.{breaks11}
 use Rattle.checks.proofs.Described.{described_text}
 use Rattle.table.proofs.Tables.{derived, header_table}
-use Rattle.opening.proofs.Answers.{body_10, body_11, body_rest}
+use Rattle.opening.proofs.Answers.{judged, body_10, body_11, body_rest}
 use Rattle.opening.proofs.Header.{text_before}
 use Rattle.opening.proofs.check_body.Goals as goal
 
@@ -24,10 +23,8 @@ check11-requires c =
 
 pub returns-then-check11 : goal.returns-then-check11
 returns-then-check11 c =
-    let judged : c.check11.result ≡ breaks11 (text_of c.args.file.now c.args.r.text) = c.check11.ensures ∙ ap breaks11 (text_part c.args.file.now c.args.r.text) in
-    body_11 _ _ (rw c.requires.header_is at c.if-length-r.false) (sym judged ∙ c.if-check11.true)
+    body_11 _ _ (rw c.requires.header_is at c.if-length-r.false) (judged breaks11 c.check11.ensures (text_part c.args.file.now c.args.r.text) c.if-check11.true)
 
 pub returns : goal.returns
 returns c =
-    let judged : c.check11.result ≡ breaks11 (text_of c.args.file.now c.args.r.text) = c.check11.ensures ∙ ap breaks11 (text_part c.args.file.now c.args.r.text) in
-    c.check_entries.ensures ∙ body_rest _ _ (rw c.requires.header_is at c.if-length-r.false) (sym judged ∙ c.if-check11.false)
+    c.check_entries.ensures ∙ body_rest _ _ (rw c.requires.header_is at c.if-length-r.false) (judged breaks11 c.check11.ensures (text_part c.args.file.now c.args.r.text) c.if-check11.false)

@@ -4,6 +4,7 @@ use native.Mathlib.Omega.{arith}
 use borrow.Author.Rules.{rules}
 use Rattle.positions.proofs.Answers.{grid-finite, index-small, breaks_14, no_dimension, no_index, inside}
 use Rattle.positions.proofs.position.Goals as goal
+use Rattle.positions.proofs.position.Goals.{then-dimension-ge3-via-then-dimension-ge3, then-dimension-ge3-via-else-dimension-ge3+then-r-along}
 
 pub position-requires : goal.position-requires
 position-requires c =
@@ -14,21 +15,17 @@ position-requires c =
     (search rules, search rules, index-small _ e c.args.dimension _ (omega arith) (omega arith))
 
 pub returns-then-check14 : goal.returns-then-check14
-returns-then-check14 c =
-    let p = breaks_14 _ c.args.dimension c.args.index (sym c.check14.ensures ∙ c.if-check14.true) in
-    record { answer = p.0; near = p.1 }
+returns-then-check14 c = breaks_14 _ c.args.dimension c.args.index (sym c.check14.ensures ∙ c.if-check14.true)
 
 pub returns-then-dimension-ge3 : goal.returns-then-dimension-ge3
 returns-then-dimension-ge3 c =
-    let p = no_dimension _ c.args.dimension c.args.index (sym c.check14.ensures ∙ c.if-check14.false) (omega arith) in
-    record { answer = p.0; near = p.1 }
-
-pub returns-then-r-along : goal.returns-then-r-along
-returns-then-r-along c =
-    let p = no_index _ c.args.dimension c.args.index (sym c.check14.ensures ∙ c.if-check14.false) (omega arith) (omega arith) in
-    record { answer = p.0; near = p.1 }
+    let e = sym c.check14.ensures ∙ c.if-check14.false in
+    elim c.then-dimension-ge3.branch [
+      | then-dimension-ge3-via-then-dimension-ge3 w ↦ no_dimension _ c.args.dimension c.args.index e w.if-dimension-ge3.true
+      | then-dimension-ge3-via-else-dimension-ge3+then-r-along w ↦
+          no_index _ c.args.dimension c.args.index e w.if-dimension-ge3.false w.if-r-along.true
+    ]
 
 pub returns : goal.returns
 returns c =
-    let p = inside _ c.args.dimension c.args.index c.position.result (sym c.check14.ensures ∙ c.if-check14.false) (omega arith) (omega arith) (c.position.ensures.value, c.position.ensures.error) in
-    record { answer = p.0; near = p.1 }
+    inside _ c.args.dimension c.args.index c.position.result (sym c.check14.ensures ∙ c.if-check14.false) (omega arith) (omega arith) (c.position.ensures.value, c.position.ensures.error)

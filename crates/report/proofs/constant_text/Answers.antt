@@ -1,6 +1,8 @@
-use mathlib.Core.Path.{sym, ap, ◌∙◌}
+use mathlib.Core.Path.{sym, ap, ◌∙◌, ◌≡◌}
+use native.Mathlib.Omega.{arith}
 use Rattle.std.specs.Prelude.{Ok}
-use Rattle.report.specs.Listing.{constant_text}
+use Rattle.text.specs.Text.{decimal}
+use Rattle.report.specs.Listing.{constant_text, constant_by}
 use Rattle.report.proofs.constant_text.Goals as goal
 
 pub returns-in-Ok-Scaled : goal.returns-in-Ok-Scaled
@@ -9,8 +11,7 @@ returns-in-Ok-Scaled c = rw (sym c.coding_of.ensures ∙ c.in-Ok-Scaled.is ∙ a
 
 pub returns-in-Ok-Float32 : goal.returns-in-Ok-Float32
 unfolding constant_text
-returns-in-Ok-Float32 c = rw (sym c.coding_of.ensures ∙ c.in-Ok-Float32.is ∙ ap Ok c.in-Ok-Float32.field-0-is) c.push_decimal.ensures
-
-pub returns-in-Err : goal.returns-in-Err
-unfolding constant_text
-returns-in-Err c = rw (sym c.coding_of.ensures ∙ c.in-Err.is) c.push_decimal-in-Err.ensures
+returns-in-Ok-Float32 c =
+    let number = rw c.from.ensures at c.push_decimal.ensures in
+    let plain : constant_by c.coding_of.result c.args.value ≡ decimal c.args.value = grind arith in
+    rw (sym c.coding_of.ensures, plain) number

@@ -15,4 +15,5 @@ brick_bytes_in-requires c = derived_sized c.args.r c.requires
 
 pub returns : goal.returns
 returns c =
-    table_made c.args.r c.requires _ _ _ c.table_start-start.ensures c.brick_bytes_in.ensures.0 c.width_of.ensures
+    let start = rw (c.from.ensures, c.from-2.ensures) at c.table_start-start.ensures in
+    table_made c.args.r c.requires _ _ _ start c.brick_bytes_in.ensures.0 c.width_of.ensures

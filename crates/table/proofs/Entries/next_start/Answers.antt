@@ -1,4 +1,5 @@
-use Rattle.std.proofs.Common.{◌∙◌, sym, ◌≡◌, arith, None, below_more}
+use Rattle.std.proofs.Common.{◌∙◌, sym, ◌≡◌, ◌<◌, ◌≤◌, arith, None, below_more}
+use Rattle.table.specs.Windows.{offset_at}
 use Rattle.table.proofs.Words.{stored_offset, stored_none}
 use Rattle.table.proofs.Cells.{next_found}
 use Rattle.table.proofs.Entries.next_start.Goals.{in-Some+then-start-offset, in_default, in_default-via-in-None-1, in_default-via-in-Some+else-start-offset}
@@ -14,15 +15,14 @@ loop-entry-preserved c =
           let e = stored_offset t f l.entry w.in-Some.offset (sym c.offset.ensures.offset ∙ w.in-Some.is) in
           record { low = omega arith; before = below_more _ _ (λ k g s h. omega (arith, l.invariant.before k g s h)) (λ s h. omega arith) }
       | in_default w ↦
-          elim w.in_default.branch [
+          let out : 0 < offset_at t f l.entry → c.args.start ≤ offset_at t f l.entry → ⊥ = elim w.in_default.branch [
             | in_default-via-in-None-1 w' ↦
                 let none : c.offset.result ≡ None = cc in
-                let e = stored_none t f l.entry (sym c.offset.ensures.offset ∙ none) in
-                record { low = omega arith; before = below_more _ _ (λ k g s h. omega (arith, l.invariant.before k g s h)) (λ s h. absurd (omega arith)) }
+                λ s h. omega (arith, stored_none t f l.entry (sym c.offset.ensures.offset ∙ none))
             | in_default-via-in-Some+else-start-offset w' ↦
-                let e = stored_offset t f l.entry w'.in-Some.offset (sym c.offset.ensures.offset ∙ w'.in-Some.is) in
-                record { low = omega arith; before = below_more _ _ (λ k g s h. omega (arith, l.invariant.before k g s h)) (λ s h. absurd (omega arith)) }
-          ]
+                λ s h. omega (arith, stored_offset t f l.entry w'.in-Some.offset (sym c.offset.ensures.offset ∙ w'.in-Some.is))
+          ] in
+          record { low = omega arith; before = below_more _ _ (λ k g s h. omega (arith, l.invariant.before k g s h)) (λ s h. absurd (out s h)) }
     ]
 
 pub returns : goal.returns
