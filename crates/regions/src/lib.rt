@@ -2,7 +2,7 @@
 // All are done before a byte moves. Their cost grows with the bricks that the region touches, never with the cube.
 #![tactic(auto)]
 
-ghost use Rattle.std.specs.Prelude.{◌≡◌, true, ◌&&◌, ◌+◌, ◌*◌, ◌≤◌, ◌<◌, leb, length};
+ghost use Rattle.std.specs.Prelude.{◌≡◌, Bool, ℕ, true, ◌&&◌, ◌+◌, ◌*◌, ◌≤◌, ◌<◌, leb, length};
 ghost use Rattle.std.specs.List.{find};
 ghost use Rattle.geometry.specs.Limits.{size_limit, level_cap};
 ghost use Rattle.geometry.specs.Geometry.{extent};
@@ -11,7 +11,7 @@ ghost use Rattle.runs.specs.Runs.{Allowed};
 ghost use Rattle.checks.specs.Checks.{side_ok};
 ghost use Rattle.table.specs.Entries.{breaks12};
 ghost use Rattle.cube.specs.Regions.{size_of, in_extent, touches, unless_touched, is_stored, region_verdict, raw_verdict, float_verdict, write_verdict};
-ghost use Rattle.regions.specs.Search.{fails, row_from, layer_from, entries_in, LayerBelow, Below, along_of, block_of, Passed, rest};
+ghost use Rattle.regions.specs.Search.{Judged, Computes, row_from, layer_from, entries_in, LayerBelow, Below, along_of, block_of, Passed, rest};
 
 use checks::check14_with;
 use cube::Region;
@@ -115,57 +115,32 @@ fn is_stored(kind: Kind) -> bool
     kind.offset().is_some()
 }
 
-// An entry fails check 19, or check 12. Which of the two is a bool and no closure that is handed down: the contracts on the way could say of a
-// closure only what its own says, and not which check it is.
-fn entry_fails(entries: &Entries, entry: u64, stored: bool) -> bool
-    requires { entry < entries.now.table.count }
-    ensures { result ≡ fails stored entries.now.table entries.now.file.now entry }
+// The first entry that fails, of a row along inline from this entry on. What it is to fail is the caller's closure: whatever test that computes, the
+// answer is the first by this test. The closure here says what it asks of an entry: by itself it would ask that any can be judged.
+fn search_row<F: Fn(u64) -> bool>(from: u64, count: u64, fails: &F) -> Option<u64>
+    requires { Judged (F.pre fails.now) (from + count) }
+    ensures { (test : ℕ → Bool) → Computes (F.post fails.now) test → result ≡ find test (row_from from count) }
 {
-    if stored {
-        return !is_stored(entries.kind(entry as usize));
-    }
-    entries.is_out_of_range(entry as usize)
-}
-
-// The first entry that fails, of a row along inline from this entry on.
-fn search_row(entries: &Entries, from: u64, count: u64, stored: bool) -> Option<u32>
-    requires { from + count ≤ entries.now.table.count }
-    ensures { result ≡ find (fails stored entries.now.table entries.now.file.now) (row_from from count) }
-{
-    for x in 0..count {
-        if entry_fails(entries, from + x, stored) {
-            return Some((from + x) as u32);
-        }
-    }
-    None
+    let failing = |entry: &u64|
+        requires { F.pre fails.now entry.now }
+    { fails(*entry) };
+    (from..from + count).find(failing)
 }
 
 // The first that fails of the rows of a layer, one after the other crossline.
-fn search_layer(entries: &Entries, b: Block, from: u64, stored: bool) -> Option<u32>
-    requires { (from ≤ entries.now.table.count) × LayerBelow b from entries.now.table.count }
-    ensures { result ≡ find (fails stored entries.now.table entries.now.file.now) (layer_from b from) }
+fn search_layer<F: Fn(u64) -> bool>(b: Block, from: u64, fails: &F) -> Option<u64>
+    requires { (n : ℕ) × Judged (F.pre fails.now) n × (from ≤ n) × LayerBelow b from n }
+    ensures { (test : ℕ → Bool) → Computes (F.post fails.now) test → result ≡ find test (layer_from b from) }
 {
-    for y in 0..b.crossline {
-        let found = search_row(entries, from + y * b.row, b.inline, stored);
-        if found.is_some() {
-            return found;
-        }
-    }
-    None
+    (0..b.crossline).find_map(|y| search_row(from + y * b.row, b.inline, fails))
 }
 
 // The first that fails of the layers of a block, one after the other vertical.
-fn search(entries: &Entries, b: Block, stored: bool) -> Option<u32>
-    requires { Below b entries.now.table.count }
-    ensures { result ≡ find (fails stored entries.now.table entries.now.file.now) (entries_in b) }
+fn search<F: Fn(u64) -> bool>(b: Block, fails: &F) -> Option<u64>
+    requires { (n : ℕ) × Judged (F.pre fails.now) n × Below b n }
+    ensures { (test : ℕ → Bool) → Computes (F.post fails.now) test → result ≡ find test (entries_in b) }
 {
-    for z in 0..b.vertical {
-        let found = search_layer(entries, b, b.first + z * b.layer, stored);
-        if found.is_some() {
-            return found;
-        }
-    }
-    None
+    (0..b.vertical).find_map(|z| search_layer(b, b.first + z * b.layer, fails))
 }
 
 // Checks 12 and, for a write, 19 over the touched entries. Whether it is a write is a bool, as in the definition of what comes after check 12.
@@ -176,14 +151,14 @@ fn check_entries(file: &[u8], r: Record, g: Region, write: bool) -> Result<(), R
 {
     let entries = Entries::of(file, r);
     let b = block_of(r, g);
-    if let Some(entry) = search(&entries, b, false) {
-        return Err(Refusal::Range(entry));
+    if let Some(entry) = search(b, &|entry| entries.is_out_of_range(entry as usize)) {
+        return Err(Refusal::Range(entry as u32));
     }
     if !write {
         return Ok(());
     }
-    match search(&entries, b, true) {
-        Some(entry) => Err(Refusal::NotStored(entry)),
+    match search(b, &|entry| !is_stored(entries.kind(entry as usize))) {
+        Some(entry) => Err(Refusal::NotStored(entry as u32)),
         None => Ok(()),
     }
 }
