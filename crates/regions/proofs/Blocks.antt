@@ -40,7 +40,7 @@ module _ (r : Record) (g : Region) (p : Passed r g) where
   pub within_of : Within r g
   within_of = within r g fit_of (lt-leb _ _ p.leveled) p.inside
 
-  pub runs_few : (run_of g 0 ≤ size_limit) × (run_of g 1 ≤ size_limit) × (run_of g 2 ≤ size_limit)
+  runs_few : (run_of g 0 ≤ size_limit) × (run_of g 1 ≤ size_limit) × (run_of g 2 ≤ size_limit)
   runs_few =
       let s = sized_of in
       let w = within_of in (
@@ -48,6 +48,14 @@ module _ (r : Record) (g : Region) (p : Passed r g) where
         omega (arith, w.run1, extent-le (size_of r.description 1) g.level, s.size1.high),
         omega (arith, w.run2, extent-le (size_of r.description 2) g.level, s.size2.high),
       )
+
+  -- no product of its counts and an item wraps
+  pub room_small : (i : ℕ) → i ≤ 4
+      → (run_of g 0 * run_of g 1 ≤ 1099511627776) × (run_of g 0 * run_of g 1 * run_of g 2 ≤ 1152921504606846976) × (run_of g 0 * run_of g 1 * run_of g 2 * i ≤ 4611686018427387904)
+  room_small i hi =
+      let two : run_of g 0 * run_of g 1 ≤ 1099511627776 = mul-le-mul runs_few.0 runs_few.1 in
+      let three : run_of g 0 * run_of g 1 * run_of g 2 ≤ 1152921504606846976 = mul-le-mul two runs_few.2 in
+      (two, three, mul-le-mul three hi)
 
 -- three digits further on: so many entries further on
 tri_step : (m n a b c x y z : ℕ) → tri m n (a + z) (b + y) (c + x) ≡ tri m n a b c + z * (n * m) + y * n + x
@@ -101,14 +109,6 @@ module _ (r : Record) (g : Region) where
   block_below p z hz = (omega (arith, row_below 0 z p block_pos.1 hz), λ y hy. row_below y z p hy hz)
 
 -- ---- what the functions make
-
--- no product of a region's counts and an item wraps
-pub room_small : (a b c i : ℕ) → a ≤ size_limit → b ≤ size_limit → c ≤ size_limit → i ≤ 4
-    → (a * b ≤ 1099511627776) × (a * b * c ≤ 1152921504606846976) × (a * b * c * i ≤ 4611686018427387904)
-room_small a b c i ha hb hc hi =
-    let two : a * b ≤ 1099511627776 = mul-le-mul ha hb in
-    let three : a * b * c ≤ 1152921504606846976 = mul-le-mul two hc in
-    (two, three, mul-le-mul three hi)
 
 -- what a block is made of: the numbers of its level, and the bricks that the region touches in each direction
 pub record BlockParts (r : Record) (g : Region) (v : Level) (x y z : Along) : Type 0 where

@@ -4,7 +4,7 @@
 
 ghost use Rattle.std.specs.Prelude.{◌≡◌, Bool, ℕ, true, ◌&&◌, ◌+◌, ◌*◌, ◌≤◌, ◌<◌, leb, length};
 ghost use Rattle.std.specs.List.{find};
-ghost use Rattle.geometry.specs.Limits.{size_limit, level_cap};
+ghost use Rattle.geometry.specs.Limits.{level_cap};
 ghost use Rattle.geometry.specs.Geometry.{extent};
 ghost use Rattle.record.specs.declared.Refusal.TheVariants as refusal;
 ghost use Rattle.runs.specs.Runs.{Allowed};
@@ -57,23 +57,6 @@ fn in_extent(r: Record, g: Region) -> bool
         & run_inside(g.start[2], g.count[2], size[2], g.level)
 }
 
-// The room that a by b by c samples take, of `item` each. `item` is a width in bytes or 1, so its bound stands at each of the three functions
-// that take it: a type of its own would be made of every width first.
-fn room_for(a: u32, b: u32, c: u32, item: u32) -> u64
-    requires { (a ≤ size_limit) × (b ≤ size_limit) × (c ≤ size_limit) × (item ≤ 4) }
-    ensures { result ≡ a * b * c * item }
-{
-    u64::from(a) * u64::from(b) * u64::from(c) * u64::from(item)
-}
-
-// The room that a region takes.
-fn needed(r: Record, g: Region, item: u32) -> u64
-    requires { Passed r g × (item ≤ 4) }
-    ensures { result ≡ size_of g * item }
-{
-    room_for(g.count[0], g.count[1], g.count[2], item)
-}
-
 // The bricks of this side that a run touches.
 fn bricks_along(side: u32, start: u32, count: u32) -> Along
     requires { (side_ok side ≡ true) × (1 ≤ count) }
@@ -88,35 +71,14 @@ fn bricks_along(side: u32, start: u32, count: u32) -> Along
     }
 }
 
-// The entries that a region touches. That checks 14, 15 and 16 have passed stands at each function after them: it is a fact of a record and a
-// region that a caller may lend in any state, and no type that it must have.
-fn block_of(r: Record, g: Region) -> Block
-    requires { Passed r g }
-    ensures { result ≡ block_of r g }
-{
-    let side = r.description.side;
-    let v = level_in(r.description, r.bricks, g.level);
-    let x = bricks_along(side[0], g.start[0], g.count[0]);
-    let y = bricks_along(side[1], g.start[1], g.count[1]);
-    let z = bricks_along(side[2], g.start[2], g.count[2]);
-    Block {
-        first: entry_at(v, x.first, y.first, z.first),
-        inline: x.span,
-        crossline: y.span,
-        vertical: z.span,
-        row: v.inline,
-        layer: v.inline * v.crossline,
-    }
-}
-
 fn is_stored(kind: Kind) -> bool
     ensures { result ≡ is_stored kind }
 {
     kind.offset().is_some()
 }
 
-// The first entry that fails, of a row along inline from this entry on. What it is to fail is the caller's closure: whatever test that computes, the
-// answer is the first by this test. The closure here says what it asks of an entry: by itself it would ask that any can be judged.
+// The first entry that fails, of a row along inline from this entry on. The check is a closure of the caller: whatever test it computes, the answer
+// is what `find` finds by this test. The closure inside says what it asks, as by itself it would ask that `fails` takes any number.
 fn search_row<F: Fn(u64) -> bool>(from: u64, count: u64, fails: &F) -> Option<u64>
     requires { Judged (F.pre fails.now) (from + count) }
     ensures { (test : ℕ → Bool) → Computes (F.post fails.now) test → result ≡ find test (row_from from count) }
@@ -127,7 +89,7 @@ fn search_row<F: Fn(u64) -> bool>(from: u64, count: u64, fails: &F) -> Option<u6
     (from..from + count).find(failing)
 }
 
-// The first that fails of the rows of a layer, one after the other crossline.
+// The first that fails of the rows of a layer, one after the other crossline. The closure takes the entries below n, as many as its table has.
 fn search_layer<F: Fn(u64) -> bool>(b: Block, from: u64, fails: &F) -> Option<u64>
     requires { (n : ℕ) × Judged (F.pre fails.now) n × (from ≤ n) × LayerBelow b from n }
     ensures { (test : ℕ → Bool) → Computes (F.post fails.now) test → result ≡ find test (layer_from b from) }
@@ -143,23 +105,63 @@ fn search<F: Fn(u64) -> bool>(b: Block, fails: &F) -> Option<u64>
     (0..b.vertical).find_map(|z| search_layer(b, b.first + z * b.layer, fails))
 }
 
-// Checks 12 and, for a write, 19 over the touched entries. Whether it is a write is a bool, as in the definition of what comes after check 12.
-// That the file is as long as the record says is asked wherever both are lent apart, here and in reads and writes.
-fn check_entries(file: &[u8], r: Record, g: Region, write: bool) -> Result<(), Refusal>
-    requires { Passed r g × (r.length ≡ length file.now) }
-    ensures { result ≡ unless_touched r refusal.Range (touches r g) (breaks12 r file.now) (rest write r file.now g) }
-{
-    let entries = Entries::of(file, r);
-    let b = block_of(r, g);
-    if let Some(entry) = search(b, &|entry| entries.is_out_of_range(entry as usize)) {
-        return Err(Refusal::Range(entry as u32));
+// A file, its record and a region of it that checks 14, 15 and 16 let pass: what the checks after them go by.
+#[derive(Clone, Copy)]
+struct Checked<'a> {
+    file: &'a [u8],
+    r: Record,
+    g: Region,
+    ghost passed: { Passed r g },
+    ghost whole: { r.length ≡ length file.now },
+}
+
+impl<'a> Checked<'a> {
+    // The room that the region takes, of `item` a sample: its width in bytes, or 1 where room counts floats.
+    fn needed(&self, item: u32) -> u64
+        requires { item ≤ 4 }
+        ensures { result ≡ size_of self.now.g * item }
+    {
+        let count = self.g.count;
+        u64::from(count[0]) * u64::from(count[1]) * u64::from(count[2]) * u64::from(item)
     }
-    if !write {
-        return Ok(());
+
+    // The entries that the region touches.
+    fn block(&self) -> Block
+        ensures { result ≡ block_of self.now.r self.now.g }
+    {
+        let r = self.r;
+        let g = self.g;
+        let side = r.description.side;
+        let v = level_in(r.description, r.bricks, g.level);
+        let x = bricks_along(side[0], g.start[0], g.count[0]);
+        let y = bricks_along(side[1], g.start[1], g.count[1]);
+        let z = bricks_along(side[2], g.start[2], g.count[2]);
+        Block {
+            first: entry_at(v, x.first, y.first, z.first),
+            inline: x.span,
+            crossline: y.span,
+            vertical: z.span,
+            row: v.inline,
+            layer: v.inline * v.crossline,
+        }
     }
-    match search(b, &|entry| !is_stored(entries.kind(entry as usize))) {
-        Some(entry) => Err(Refusal::NotStored(entry as u32)),
-        None => Ok(()),
+
+    // Checks 12 and, for a write, 19 over the touched entries. Whether it is a write is a bool, as in the definition of what comes after check 12.
+    fn check_entries(&self, write: bool) -> Result<(), Refusal>
+        ensures { result ≡ unless_touched self.now.r refusal.Range (touches self.now.r self.now.g) (breaks12 self.now.r self.now.file.now) (rest write self.now.r self.now.file.now self.now.g) }
+    {
+        let entries = Entries::of(self.file, self.r);
+        let b = self.block();
+        if let Some(entry) = search(b, &|entry| entries.is_out_of_range(entry as usize)) {
+            return Err(Refusal::Range(entry as u32));
+        }
+        if !write {
+            return Ok(());
+        }
+        match search(b, &|entry| !is_stored(entries.kind(entry as usize))) {
+            Some(entry) => Err(Refusal::NotStored(entry as u32)),
+            None => Ok(()),
+        }
     }
 }
 
@@ -184,10 +186,11 @@ fn check_region(
     if !in_extent(r, g) {
         return Err(Refusal::Index);
     }
-    if (room as u64) < needed(r, g, item) {
+    let checked = Checked { file, r, g };
+    if (room as u64) < checked.needed(item) {
         return Err(Refusal::Room);
     }
-    check_entries(file, r, g, write)
+    checked.check_entries(write)
 }
 
 // The checks of a raw read into a buffer of room bytes.
