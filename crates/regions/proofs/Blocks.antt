@@ -1,7 +1,5 @@
 -- The block of entries that a region touches: its numbers, and that it lies in the table. Assumes nothing.
-use mathlib.Core.Bool.{Bool, true, false, not, cond}
-use mathlib.Core.List.{List}
-use mathlib.Core.Path.{◌≡◌, refl, sym}
+use mathlib.Core.Path.{◌≡◌, sym}
 use Prim.Native.Nat.{ℕ, ◌+◌, ◌-◌, ◌*◌, ◌/◌, ◌≤◌, ◌<◌}
 use native.Mathlib.Nat.{mul_comm, mul_assoc, mul-le-mul}
 use native.Mathlib.Omega.{arith}
@@ -17,16 +15,13 @@ use Rattle.record.specs.declared.Record.{Record}
 use Rattle.record.proofs.Laws.{small}
 use Rattle.checks.proofs.Described.{described_sized, described-few}
 use Rattle.checks.proofs.Records.{Fit, fits_all}
-use Rattle.table.specs.Entries.{kind_at, outside_at, table_in, breaks12}
-use Rattle.table.specs.declared.Kind.{Kind}
-use Rattle.table.specs.declared.Table.{Table}
 use Rattle.runs.specs.Runs.{level_in}
 use Rattle.cube.specs.declared.Region.{Region}
-use Rattle.cube.specs.Places.{entry_in, kind_in}
-use Rattle.cube.specs.Regions.{start_of, run_of, is_stored, not_stored}
+use Rattle.cube.specs.Places.{entry_in}
+use Rattle.cube.specs.Regions.{start_of, run_of}
 use Rattle.cube.proofs.Regions.{Within, within}
 use Rattle.regions.specs.declared.Along.{Along}
-use Rattle.regions.specs.Search.{fails, entries_in, Below, along_of, block_of, Passed}
+use Rattle.regions.specs.Search.{entries_in, Below, along_of, block_of, Passed}
 use Rattle.regions.proofs.Lowest.{touched, brick_in}
 use Rattle.endian.proofs.Cats.{cat-same}
 
@@ -45,7 +40,7 @@ module _ (r : Record) (g : Region) (p : Passed r g) where
   pub within_of : Within r g
   within_of = within r g fit_of (lt-leb _ _ p.leveled) p.inside
 
-  pub runs_few : (run_of g 0 ≤ size_limit) × (run_of g 1 ≤ size_limit) × (run_of g 2 ≤ size_limit)
+  runs_few : (run_of g 0 ≤ size_limit) × (run_of g 1 ≤ size_limit) × (run_of g 2 ≤ size_limit)
   runs_few =
       let s = sized_of in
       let w = within_of in (
@@ -53,6 +48,14 @@ module _ (r : Record) (g : Region) (p : Passed r g) where
         omega (arith, w.run1, extent-le (size_of r.description 1) g.level, s.size1.high),
         omega (arith, w.run2, extent-le (size_of r.description 2) g.level, s.size2.high),
       )
+
+  -- no product of its counts and an item wraps
+  pub room_small : (i : ℕ) → i ≤ 4
+      → (run_of g 0 * run_of g 1 ≤ 1099511627776) × (run_of g 0 * run_of g 1 * run_of g 2 ≤ 1152921504606846976) × (run_of g 0 * run_of g 1 * run_of g 2 * i ≤ 4611686018427387904)
+  room_small i hi =
+      let two : run_of g 0 * run_of g 1 ≤ 1099511627776 = mul-le-mul runs_few.0 runs_few.1 in
+      let three : run_of g 0 * run_of g 1 * run_of g 2 ≤ 1152921504606846976 = mul-le-mul two runs_few.2 in
+      (two, three, mul-le-mul three hi)
 
 -- three digits further on: so many entries further on
 tri_step : (m n a b c x y z : ℕ) → tri m n (a + z) (b + y) (c + x) ≡ tri m n a b c + z * (n * m) + y * n + x
@@ -105,28 +108,7 @@ module _ (r : Record) (g : Region) where
   pub block_below : Passed r g → Below (block_of r g) (bricks_of r.description)
   block_below p z hz = (omega (arith, row_below 0 z p block_pos.1 hz), λ y hy. row_below y z p hy hz)
 
--- the test of an entry is that of check 19, or of check 12
-pub fails-is : (r : Record) (f : List ℕ) (stored : Bool) (e : ℕ) → fails stored (table_in r) f e ≡ cond stored (not_stored r f e) (breaks12 r f e)
-unfolding fails kind_in breaks12
-fails-is r f stored e = refl
-
-pub fails_19 : (stored : Bool) (t : Table) (f : List ℕ) (e : ℕ) (k : Kind) → stored ≡ true → k ≡ kind_at t f e → not (is_stored k) ≡ fails stored t f e
-unfolding fails
-fails_19 stored t f e k q h = rw (q, h)
-
-pub fails_12 : (stored : Bool) (t : Table) (f : List ℕ) (e : ℕ) → stored ≡ false → outside_at t f e ≡ fails stored t f e
-unfolding fails
-fails_12 stored t f e q = rw q
-
 -- ---- what the functions make
-
--- no product of a region's counts and an item wraps
-pub room_small : (a b c i : ℕ) → a ≤ size_limit → b ≤ size_limit → c ≤ size_limit → i ≤ 4
-    → (a * b ≤ 1099511627776) × (a * b * c ≤ 1152921504606846976) × (a * b * c * i ≤ 4611686018427387904)
-room_small a b c i ha hb hc hi =
-    let two : a * b ≤ 1099511627776 = mul-le-mul ha hb in
-    let three : a * b * c ≤ 1152921504606846976 = mul-le-mul two hc in
-    (two, three, mul-le-mul three hi)
 
 -- what a block is made of: the numbers of its level, and the bricks that the region touches in each direction
 pub record BlockParts (r : Record) (g : Region) (v : Level) (x y z : Along) : Type 0 where

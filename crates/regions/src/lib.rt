@@ -2,16 +2,16 @@
 // All are done before a byte moves. Their cost grows with the bricks that the region touches, never with the cube.
 #![tactic(auto)]
 
-ghost use Rattle.std.specs.Prelude.{◌≡◌, true, ◌&&◌, ◌+◌, ◌*◌, ◌≤◌, ◌<◌, leb, length};
+ghost use Rattle.std.specs.Prelude.{◌≡◌, Bool, ℕ, true, ◌&&◌, ◌+◌, ◌*◌, ◌≤◌, ◌<◌, leb, length};
 ghost use Rattle.std.specs.List.{find};
-ghost use Rattle.geometry.specs.Limits.{size_limit, level_cap};
+ghost use Rattle.geometry.specs.Limits.{level_cap};
 ghost use Rattle.geometry.specs.Geometry.{extent};
 ghost use Rattle.record.specs.declared.Refusal.TheVariants as refusal;
 ghost use Rattle.runs.specs.Runs.{Allowed};
 ghost use Rattle.checks.specs.Checks.{side_ok};
 ghost use Rattle.table.specs.Entries.{breaks12};
 ghost use Rattle.cube.specs.Regions.{size_of, in_extent, touches, unless_touched, is_stored, region_verdict, raw_verdict, float_verdict, write_verdict};
-ghost use Rattle.regions.specs.Search.{fails, row_from, layer_from, entries_in, LayerBelow, Below, along_of, block_of, Passed, rest};
+ghost use Rattle.regions.specs.Search.{Judged, Computes, row_from, layer_from, entries_in, LayerBelow, Below, along_of, block_of, Passed, rest};
 
 use checks::check14_with;
 use cube::Region;
@@ -57,23 +57,6 @@ fn in_extent(r: Record, g: Region) -> bool
         & run_inside(g.start[2], g.count[2], size[2], g.level)
 }
 
-// The room that a by b by c samples take, of `item` each. `item` is a width in bytes or 1, so its bound stands at each of the three functions
-// that take it: a type of its own would be made of every width first.
-fn room_for(a: u32, b: u32, c: u32, item: u32) -> u64
-    requires { (a ≤ size_limit) × (b ≤ size_limit) × (c ≤ size_limit) × (item ≤ 4) }
-    ensures { result ≡ a * b * c * item }
-{
-    u64::from(a) * u64::from(b) * u64::from(c) * u64::from(item)
-}
-
-// The room that a region takes.
-fn needed(r: Record, g: Region, item: u32) -> u64
-    requires { Passed r g × (item ≤ 4) }
-    ensures { result ≡ size_of g * item }
-{
-    room_for(g.count[0], g.count[1], g.count[2], item)
-}
-
 // The bricks of this side that a run touches.
 fn bricks_along(side: u32, start: u32, count: u32) -> Along
     requires { (side_ok side ≡ true) × (1 ≤ count) }
@@ -88,103 +71,97 @@ fn bricks_along(side: u32, start: u32, count: u32) -> Along
     }
 }
 
-// The entries that a region touches. That checks 14, 15 and 16 have passed stands at each function after them: it is a fact of a record and a
-// region that a caller may lend in any state, and no type that it must have.
-fn block_of(r: Record, g: Region) -> Block
-    requires { Passed r g }
-    ensures { result ≡ block_of r g }
-{
-    let side = r.description.side;
-    let v = level_in(r.description, r.bricks, g.level);
-    let x = bricks_along(side[0], g.start[0], g.count[0]);
-    let y = bricks_along(side[1], g.start[1], g.count[1]);
-    let z = bricks_along(side[2], g.start[2], g.count[2]);
-    Block {
-        first: entry_at(v, x.first, y.first, z.first),
-        inline: x.span,
-        crossline: y.span,
-        vertical: z.span,
-        row: v.inline,
-        layer: v.inline * v.crossline,
-    }
-}
-
 fn is_stored(kind: Kind) -> bool
     ensures { result ≡ is_stored kind }
 {
     kind.offset().is_some()
 }
 
-// An entry fails check 19, or check 12. Which of the two is a bool and no closure that is handed down: the contracts on the way could say of a
-// closure only what its own says, and not which check it is.
-fn entry_fails(entries: &Entries, entry: u64, stored: bool) -> bool
-    requires { entry < entries.now.table.count }
-    ensures { result ≡ fails stored entries.now.table entries.now.file.now entry }
+// The first entry that fails, of a row along inline from this entry on. The check is a closure of the caller: whatever test it computes, the answer
+// is what `find` finds by this test. The closure inside says what it asks, as by itself it would ask that `fails` takes any number.
+fn search_row<F: Fn(u64) -> bool>(from: u64, count: u64, fails: &F) -> Option<u64>
+    requires { Judged (F.pre fails.now) (from + count) }
+    ensures { (test : ℕ → Bool) → Computes (F.post fails.now) test → result ≡ find test (row_from from count) }
 {
-    if stored {
-        return !is_stored(entries.kind(entry as usize));
-    }
-    entries.is_out_of_range(entry as usize)
+    let failing = |entry: &u64|
+        requires { F.pre fails.now entry.now }
+    { fails(*entry) };
+    (from..from + count).find(failing)
 }
 
-// The first entry that fails, of a row along inline from this entry on.
-fn search_row(entries: &Entries, from: u64, count: u64, stored: bool) -> Option<u32>
-    requires { from + count ≤ entries.now.table.count }
-    ensures { result ≡ find (fails stored entries.now.table entries.now.file.now) (row_from from count) }
+// The first that fails of the rows of a layer, one after the other crossline. The closure takes the entries below n, as many as its table has.
+fn search_layer<F: Fn(u64) -> bool>(b: Block, from: u64, fails: &F) -> Option<u64>
+    requires { (n : ℕ) × Judged (F.pre fails.now) n × (from ≤ n) × LayerBelow b from n }
+    ensures { (test : ℕ → Bool) → Computes (F.post fails.now) test → result ≡ find test (layer_from b from) }
 {
-    for x in 0..count {
-        if entry_fails(entries, from + x, stored) {
-            return Some((from + x) as u32);
-        }
-    }
-    None
-}
-
-// The first that fails of the rows of a layer, one after the other crossline.
-fn search_layer(entries: &Entries, b: Block, from: u64, stored: bool) -> Option<u32>
-    requires { (from ≤ entries.now.table.count) × LayerBelow b from entries.now.table.count }
-    ensures { result ≡ find (fails stored entries.now.table entries.now.file.now) (layer_from b from) }
-{
-    for y in 0..b.crossline {
-        let found = search_row(entries, from + y * b.row, b.inline, stored);
-        if found.is_some() {
-            return found;
-        }
-    }
-    None
+    (0..b.crossline).find_map(|y| search_row(from + y * b.row, b.inline, fails))
 }
 
 // The first that fails of the layers of a block, one after the other vertical.
-fn search(entries: &Entries, b: Block, stored: bool) -> Option<u32>
-    requires { Below b entries.now.table.count }
-    ensures { result ≡ find (fails stored entries.now.table entries.now.file.now) (entries_in b) }
+fn search<F: Fn(u64) -> bool>(b: Block, fails: &F) -> Option<u64>
+    requires { (n : ℕ) × Judged (F.pre fails.now) n × Below b n }
+    ensures { (test : ℕ → Bool) → Computes (F.post fails.now) test → result ≡ find test (entries_in b) }
 {
-    for z in 0..b.vertical {
-        let found = search_layer(entries, b, b.first + z * b.layer, stored);
-        if found.is_some() {
-            return found;
-        }
-    }
-    None
+    (0..b.vertical).find_map(|z| search_layer(b, b.first + z * b.layer, fails))
 }
 
-// Checks 12 and, for a write, 19 over the touched entries. Whether it is a write is a bool, as in the definition of what comes after check 12.
-// That the file is as long as the record says is asked wherever both are lent apart, here and in reads and writes.
-fn check_entries(file: &[u8], r: Record, g: Region, write: bool) -> Result<(), Refusal>
-    requires { Passed r g × (r.length ≡ length file.now) }
-    ensures { result ≡ unless_touched r refusal.Range (touches r g) (breaks12 r file.now) (rest write r file.now g) }
-{
-    let entries = Entries::of(file, r);
-    let b = block_of(r, g);
-    if let Some(entry) = search(&entries, b, false) {
-        return Err(Refusal::Range(entry));
+// A file, its record and a region of it that checks 14, 15 and 16 let pass: what the checks after them go by.
+#[derive(Clone, Copy)]
+struct Checked<'a> {
+    file: &'a [u8],
+    r: Record,
+    g: Region,
+    ghost passed: { Passed r g },
+    ghost whole: { r.length ≡ length file.now },
+}
+
+impl<'a> Checked<'a> {
+    // The room that the region takes, of `item` a sample: its width in bytes, or 1 where room counts floats.
+    fn needed(&self, item: u32) -> u64
+        requires { item ≤ 4 }
+        ensures { result ≡ size_of self.now.g * item }
+    {
+        let count = self.g.count;
+        u64::from(count[0]) * u64::from(count[1]) * u64::from(count[2]) * u64::from(item)
     }
-    if !write {
-        return Ok(());
+
+    // The entries that the region touches.
+    fn block(&self) -> Block
+        ensures { result ≡ block_of self.now.r self.now.g }
+    {
+        let r = self.r;
+        let g = self.g;
+        let side = r.description.side;
+        let v = level_in(r.description, r.bricks, g.level);
+        let x = bricks_along(side[0], g.start[0], g.count[0]);
+        let y = bricks_along(side[1], g.start[1], g.count[1]);
+        let z = bricks_along(side[2], g.start[2], g.count[2]);
+        Block {
+            first: entry_at(v, x.first, y.first, z.first),
+            inline: x.span,
+            crossline: y.span,
+            vertical: z.span,
+            row: v.inline,
+            layer: v.inline * v.crossline,
+        }
     }
-    match search(&entries, b, true) {
-        Some(entry) => Err(Refusal::NotStored(entry)),
-        None => Ok(()),
+
+    // Checks 12 and, for a write, 19 over the touched entries. Whether it is a write is a bool, as in the definition of what comes after check 12.
+    fn check_entries(&self, write: bool) -> Result<(), Refusal>
+        ensures { result ≡ unless_touched self.now.r refusal.Range (touches self.now.r self.now.g) (breaks12 self.now.r self.now.file.now) (rest write self.now.r self.now.file.now self.now.g) }
+    {
+        let entries = Entries::of(self.file, self.r);
+        let b = self.block();
+        if let Some(entry) = search(b, &|entry| entries.is_out_of_range(entry as usize)) {
+            return Err(Refusal::Range(entry as u32));
+        }
+        if !write {
+            return Ok(());
+        }
+        match search(b, &|entry| !is_stored(entries.kind(entry as usize))) {
+            Some(entry) => Err(Refusal::NotStored(entry as u32)),
+            None => Ok(()),
+        }
     }
 }
 
@@ -209,10 +186,11 @@ fn check_region(
     if !in_extent(r, g) {
         return Err(Refusal::Index);
     }
-    if (room as u64) < needed(r, g, item) {
+    let checked = Checked { file, r, g };
+    if (room as u64) < checked.needed(item) {
         return Err(Refusal::Room);
     }
-    check_entries(file, r, g, write)
+    checked.check_entries(write)
 }
 
 // The checks of a raw read into a buffer of room bytes.

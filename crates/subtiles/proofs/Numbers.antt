@@ -1,12 +1,9 @@
 -- The run numbers of the two orders undo each other, below the number of runs. Assumes nothing.
 use mathlib.Core.Path.{◌≡◌, ◌∙◌}
-use Prim.Native.Nat.{ℕ, ◌+◌, ◌*◌, ◌/◌, ◌%◌, ◌≤◌, ◌<◌}
-use native.Mathlib.Nat.{div-add-mod', mod-lt, div-lt_iff_lt-mul, mul-le-mul}
+use Prim.Native.Nat.{ℕ, ◌+◌, ◌*◌, ◌/◌, ◌%◌, ◌<◌}
+use native.Mathlib.Nat.{div-add-mod', mod-lt, div-lt_iff_lt-mul}
 use native.Mathlib.Omega.{arith}
-use mir.Syntax.{w64}
-use mir.Val.{Fits}
 use lib.Arith.{digits_lt, digits_div, digits_mod}
-use Rattle.geometry.specs.Limits.{side_room}
 use Rattle.subtiles.specs.Runs.{tiled_run, plain_run}
 use Rattle.subtiles.proofs.Sides.{Tiled}
 
@@ -83,23 +80,3 @@ module _ (n0 n1 : ℕ) (t0 : Tiled n0) (t1 : Tiled n1) where
   plain_tiled r =
       plain-split n1 (r / n1 / 8) (r / n1 % 8) (r % n1 / 8) (r % n1 % 8) (in_subtile t1 (mod-lt r (omega arith))) (omega arith) (omega arith)
       ∙ rw (div-add-mod' (r / n1) 8, div-add-mod' (r % n1) 8, div-add-mod' r n1)
-
--- ---- that nothing wraps: products of two sides and a side
-
-abbrev small : ℕ
-small = side_room * side_room * side_room + side_room * side_room
-
-pub product_small : {a b : ℕ} → a ≤ side_room * side_room → b ≤ side_room → a * b ≤ small
-product_small {a} {b} ha hb = let h : a * b ≤ side_room * side_room * side_room = mul-le-mul ha hb in omega arith
-
-pub pair_small : {a b d : ℕ} → a ≤ side_room * side_room → b ≤ side_room → d ≤ side_room * side_room → a * b + d ≤ small
-pair_small {a} {b} ha hb hd = let h : a * b ≤ side_room * side_room * side_room = mul-le-mul ha hb in omega arith
-
-pub small-fits : {n : ℕ} → n ≤ small → Fits w64 n
-small-fits h = omega arith
-
-pub tiles_fit : {t : ℕ} → t ≤ small → Fits w64 (t * 64)
-tiles_fit h = omega arith
-
-pub runs_fit : {t e : ℕ} → t ≤ small → e ≤ 64 → Fits w64 (t * 64 + e)
-runs_fit h k = omega arith

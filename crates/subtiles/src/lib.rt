@@ -1,13 +1,13 @@
 // The version 1 brick order as a permutation: a brick moved to plain order and back, between two lent buffers.
 #![tactic(auto)]
 
-ghost use Rattle.std.specs.Prelude.{◌≡◌, ◌*◌, ◌≤◌, ◌<◌, length};
+ghost use Rattle.std.specs.Prelude.{Bool, true, false, ◌≡◌, ◌*◌, ◌≤◌, ◌<◌, length};
 ghost use Rattle.endian.specs.Loops.{cat};
 ghost use Rattle.endian.specs.Bytes.{peek};
 ghost use Rattle.geometry.specs.Limits.{side_room};
 ghost use Rattle.subtiles.specs.Subtiles.{breaks20};
 ghost use Rattle.subtiles.specs.Answers.{permute_answer, buffer_after, plain_buffer, subtiled_buffer};
-ghost use Rattle.subtiles.specs.Runs.{tiled_run, plain_run, source_run, moved_in, Movable};
+ghost use Rattle.subtiles.specs.Runs.{source_run, moved_in, Movable};
 ghost use Rattle.subtiles.specs.Laws.{IsPermutation, ThereAndBack};
 
 use endian::copy;
@@ -17,6 +17,7 @@ use record::Refusal;
 // Whole subtiles fill a side of 2^3 and more.
 const TILE_EXPONENT: u32 = 3;
 
+// Check 20. It answers a bool, as its definition does, and is asked once, where its refusal is named.
 fn breaks_20(side: [u32; 3], width: u32) -> bool
     ensures { result ≡ breaks20 side width }
 {
@@ -25,57 +26,60 @@ fn breaks_20(side: [u32; 3], width: u32) -> bool
     !(tiled & power_in(LEAST_EXPONENT, side[2]) & item)
 }
 
-// A run is the items of one column (i, j). Both orders keep them together, so that a run moves as a whole.
-// The number in the version 1 order of run r of the plain order: 64 runs a subtile, n1 / 8 subtiles in a row of them. The bounds of n1 and r
-// stand at each of the three functions: a type for the pair would be made anew for every run of the loop.
-fn tiled_run(n1: usize, r: usize) -> usize
-    requires { (8 ≤ n1) × (n1 ≤ side_room) × (r < side_room * side_room) }
-    ensures { result ≡ tiled_run n1 r }
-{
-    let across = n1 / 8;
-    let i = r / n1;
-    let j = r % n1;
-    let tile = i / 8 * across + j / 8;
-    let inside = i % 8 * 8 + j % 8;
-    tile * 64 + inside
+// A way to move a brick: where run r of the order that it is moved to is taken from. A run is the items of one column (i, j). Both orders keep them
+// together, so that a run moves as a whole.
+trait Way {
+    // The way is to plain order, and not back.
+    ghost plain: { Bool };
+
+    // For a brick of n1 columns a row.
+    fn source(n1: usize, r: usize) -> usize
+        requires { (8 ≤ n1) × (n1 ≤ side_room) × (r < side_room * side_room) }
+        ensures { result ≡ source_run plain n1 r };
 }
 
-// The number in the plain order of run r of the version 1 order.
-fn plain_run(n1: usize, r: usize) -> usize
-    requires { (8 ≤ n1) × (n1 ≤ side_room) × (r < side_room * side_room) }
-    ensures { result ≡ plain_run n1 r }
-{
-    let across = n1 / 8;
-    let tile = r / 64;
-    let inside = r % 64;
-    let i = tile / across * 8 + inside / 8;
-    let j = tile % across * 8 + inside % 8;
-    i * n1 + j
+struct ToPlain;
+
+struct ToSubtiled;
+
+impl Way for ToPlain {
+    ghost plain = { true };
+
+    // The number in the version 1 order of run r of the plain order: 64 runs a subtile, n1 / 8 subtiles in a row of them.
+    fn source(n1: usize, r: usize) -> usize {
+        let across = n1 / 8;
+        let i = r / n1;
+        let j = r % n1;
+        let tile = i / 8 * across + j / 8;
+        let inside = i % 8 * 8 + j % 8;
+        tile * 64 + inside
+    }
 }
 
-// Where run r is taken from, on the way to plain order or back. The way is a bool and no closure: of a closure the promise of the moved brick
-// could say only what the closure's own contract says.
-fn source_run(plain: bool, n1: usize, r: usize) -> usize
-    requires { (8 ≤ n1) × (n1 ≤ side_room) × (r < side_room * side_room) }
-    ensures { result ≡ source_run plain n1 r }
-{
-    if plain {
-        tiled_run(n1, r)
-    } else {
-        plain_run(n1, r)
+impl Way for ToSubtiled {
+    ghost plain = { false };
+
+    // The number in the plain order of run r of the version 1 order.
+    fn source(n1: usize, r: usize) -> usize {
+        let across = n1 / 8;
+        let tile = r / 64;
+        let inside = r % 64;
+        let i = tile / across * 8 + inside / 8;
+        let j = tile % across * 8 + inside % 8;
+        i * n1 + j
     }
 }
 
 // Each run of `run` bytes of the buffer, in turn, from its place in the other order. The end of each is counted by hand: after
 // `chunks_exact_mut` a proof knows no byte of a chunk.
-fn move_runs(out: &mut [u8], brick: &[u8], plain: bool, n1: usize, runs: usize, run: usize)
-    requires { Movable plain n1 runs run (length brick.now) (length out.old) }
-    ensures { out.new ≡ cat runs (λ r. peek brick.now (source_run plain n1 r * run) run) }
+fn move_runs<W: Way>(out: &mut [u8], brick: &[u8], n1: usize, runs: usize, run: usize)
+    requires { Movable W.plain n1 runs run (length brick.now) (length out.old) }
+    ensures { out.new ≡ cat runs (λ r. peek brick.now (source_run W.plain n1 r * run) run) }
 {
     let mut a = 0;
     for r in 0..runs {
         let e = a + run;
-        let p = source_run(plain, n1, r) * run;
+        let p = W::source(n1, r) * run;
         let q = p + run;
         copy(&mut out[a..e], &brick[p..q]);
         a = e;
@@ -83,15 +87,9 @@ fn move_runs(out: &mut [u8], brick: &[u8], plain: bool, n1: usize, runs: usize, 
 }
 
 // The move in either direction: the checks, then the runs, into the front of the buffer.
-fn permute(
-    out: &mut [u8],
-    brick: &[u8],
-    side: [u32; 3],
-    width: u32,
-    plain: bool,
-) -> Result<u64, Refusal>
+fn permute<W: Way>(out: &mut [u8], brick: &[u8], side: [u32; 3], width: u32) -> Result<u64, Refusal>
     ensures value { result ≡ permute_answer side width (length brick.now) (length out.old) }
-    ensures out_after { out.new ≡ buffer_after (permute_answer side width (length brick.now) (length out.old)) (moved_in plain side width brick.now) out.old }
+    ensures out_after { out.new ≡ buffer_after (permute_answer side width (length brick.now) (length out.old)) (moved_in W.plain side width brick.now) out.old }
 {
     if breaks_20(side, width) {
         return Err(Refusal::Subtiles);
@@ -106,7 +104,7 @@ fn permute(
     if (brick.len() < n) | (room < n) {
         return Err(Refusal::Room);
     }
-    move_runs(&mut out[..n], brick, plain, n1, n0 * n1, n2 * item);
+    move_runs::<W>(&mut out[..n], brick, n1, n0 * n1, n2 * item);
     Ok(bytes)
 }
 
@@ -115,7 +113,7 @@ pub fn to_plain(out: &mut [u8], brick: &[u8], side: [u32; 3], width: u32) -> Res
     ensures value { result ≡ permute_answer side width (length brick.now) (length out.old) }
     ensures out_after { out.new ≡ plain_buffer side width brick.now out.old }
 {
-    permute(out, brick, side, width, true)
+    permute::<ToPlain>(out, brick, side, width)
 }
 
 // A brick in plain order to the version 1 order.
@@ -123,7 +121,7 @@ pub fn to_subtiled(out: &mut [u8], brick: &[u8], side: [u32; 3], width: u32) -> 
     ensures value { result ≡ permute_answer side width (length brick.now) (length out.old) }
     ensures out_after { out.new ≡ subtiled_buffer side width brick.now out.old }
 {
-    permute(out, brick, side, width, false)
+    permute::<ToSubtiled>(out, brick, side, width)
 }
 
 // That the version 1 order is a permutation. The function does nothing; its contract is the theorem.

@@ -19,18 +19,15 @@ pub returns-then-not-in_extent : goal.returns-then-not-in_extent
 returns-then-not-in_extent c =
     stop16 _ _ _ _ _ _ (sym c.check14_with.ensures ∙ c.if-check14_with.false) c.if-r-g.false (sym c.in_extent.ensures ∙ c.if-not-in_extent.true)
 
-pub needed-requires : goal.needed-requires
-needed-requires c =
-    ((passed_of _ _ _ (sym c.check14_with.ensures ∙ c.if-check14_with.false) c.if-r-g.false (sym c.in_extent.ensures ∙ c.if-not-in_extent.false)).0, omega (arith, c.requires))
+pub invariant_of-checked : goal.invariant_of-checked
+invariant_of-checked c =
+    let p = passed_of _ _ _ (sym c.check14_with.ensures ∙ c.if-check14_with.false) c.if-r-g.false (sym c.in_extent.ensures ∙ c.if-not-in_extent.false) in
+    record { passed = p.0; whole = p.1 }
 
 pub returns-then-room-needed : goal.returns-then-room-needed
 returns-then-room-needed c =
     stop18 _ _ _ _ _ _ (sym c.check14_with.ensures ∙ c.if-check14_with.false) c.if-r-g.false (sym c.in_extent.ensures ∙ c.if-not-in_extent.false)
     (rw (← c.needed.ensures) c.if-room-needed.true)
-
-pub check_entries-requires : goal.check_entries-requires
-check_entries-requires c =
-    passed_of _ _ _ (sym c.check14_with.ensures ∙ c.if-check14_with.false) c.if-r-g.false (sym c.in_extent.ensures ∙ c.if-not-in_extent.false)
 
 pub returns : goal.returns
 returns c =

@@ -4,7 +4,7 @@ use Rattle.subtiles.proofs.Orders.{run_at}
 use Rattle.subtiles.proofs.move_runs.Goals as goal
 
 pub loop-r-init : goal.loop-r-init
-loop-r-init c = turns_none _ _ _ _ c.requires.whole
+loop-r-init g c = turns_none _ _ _ _ c.requires.whole
 
 pub loop-r-preserved : goal.loop-r-preserved
-loop-r-preserved c = turns_more c.loop-r.invariant c.loop-r-test.true c.copy.auto.out (c.copy.ensures ∙ run_at _ _ c.source_run.ensures)
+loop-r-preserved g c = turns_more c.loop-r.invariant c.loop-r-test.true c.copy.auto.out (c.copy.ensures ∙ run_at _ _ c.source.ensures)

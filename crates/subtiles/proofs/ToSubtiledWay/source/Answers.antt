@@ -1,6 +1,6 @@
 use mathlib.Core.Path.{refl}
 use Rattle.subtiles.specs.Runs.{plain_run}
-use Rattle.subtiles.proofs.plain_run.Goals as goal
+use Rattle.subtiles.proofs.ToSubtiledWay.source.Goals as goal
 
 pub returns : goal.returns
 unfolding plain_run

@@ -1,6 +1,6 @@
 use mathlib.Core.Path.{refl}
 use Rattle.subtiles.specs.Runs.{tiled_run}
-use Rattle.subtiles.proofs.tiled_run.Goals as goal
+use Rattle.subtiles.proofs.ToPlainWay.source.Goals as goal
 
 pub returns : goal.returns
 unfolding tiled_run
