@@ -1,7 +1,7 @@
 // Brick kind and brick view, by entry number.
 #![tactic(auto)]
 
-ghost use Rattle.std.specs.Prelude.{◌≡◌, ◌*◌, ◌^◌, ◌<◌, ◌≤◌, length};
+ghost use Rattle.std.specs.Prelude.{◌≡◌, ◌*◌, ◌^◌, ◌<◌, ◌/◌, length};
 ghost use Rattle.record.specs.Types.{width_of, value_of};
 ghost use Rattle.record.specs.Answers.{Taken, answered};
 ghost use Rattle.table.specs.Entries.{kind_in, Width, Derived};
@@ -12,7 +12,6 @@ ghost use Rattle.bricks.specs.Filler.{Narrow, Repeats, Same};
 
 use checks::check14_with;
 use cube::missing_brick;
-use endian::u32_at;
 use floats::{Item, widen_bits};
 use record::{Coding, Record, Refusal, coding_of};
 use table::{Entries, Kind, table_in};
@@ -94,13 +93,13 @@ fn repeated(value: u32, width: u32) -> u32
 }
 
 // No early exit: differences are gathered and tested once, which runs at memory speed.
-fn same_words(filler: &[u8], word: u32, count: usize) -> bool
-    requires { 4 * count ≤ length filler.now }
-    ensures { Same filler.now word count result }
+fn same_words(filler: &[u8], word: u32) -> bool
+    ensures { Same filler.now word (length filler.now / 4) result }
 {
+    let (words, _) = filler.as_chunks::<4>();
     let mut different = 0;
-    for i in 0..count {
-        different |= u32_at(filler, 4 * i) ^ word;
+    for bytes in words {
+        different |= u32::from_le_bytes(*bytes) ^ word;
     }
     different == 0
 }
@@ -115,8 +114,7 @@ fn check_filler(filler: &[u8], r: Record, value: u32) -> Result<(), Refusal>
     if filler.len() < bytes {
         return Err(Refusal::Room);
     }
-    let words = bytes / 4;
-    if same_words(filler, repeated(value, t.width), words) {
+    if same_words(&filler[..bytes], repeated(value, t.width)) {
         return Ok(());
     }
     Err(Refusal::Filler)
