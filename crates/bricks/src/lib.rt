@@ -49,15 +49,15 @@ fn kind_of_entry(file: &[u8], r: Record, entry: u32) -> Result<Kind, Refusal>
     Ok(Entries::of(file, r).kind(entry as usize))
 }
 
-// The storage value of a constant as a float, unscaled.
+// The storage value of a constant as a float, unscaled. decoding's `decode_one` has this match with `.scaled(..)` in its first arm, and says there why
+// each has its own.
 fn constant_value(datatype: u8, raw: u32) -> f64
     requires { raw < 256 ^ width_of datatype }
     ensures { result ≡ value_of datatype raw }
 {
     match coding_of(datatype) {
-        Ok(Coding::Scaled { width: _, half }) => Item { raw, half }.value(),
-        Ok(Coding::Float32 { width: _ }) => widen_bits(raw),
-        Err(_) => widen_bits(raw),
+        Ok(Coding::Scaled { half, .. }) => Item { raw, half }.value(),
+        Ok(Coding::Float32 { .. }) | Err(_) => widen_bits(raw),
     }
 }
 
@@ -148,8 +148,7 @@ fn shown<'a>(file: &'a [u8], filler: &'a [u8], r: Record, entry: u32) -> &'a [u8
     let entries = Entries::of(file, r);
     let bytes = entries.table.brick as usize;
     match entries.kind(entry as usize) {
-        Kind::Missing => &filler[0..bytes],
-        Kind::Constant(_) => &filler[0..bytes],
+        Kind::Missing | Kind::Constant(_) => &filler[0..bytes],
         Kind::Stored(offset) => {
             let start = offset as usize;
             let end = start + bytes;
@@ -158,7 +157,8 @@ fn shown<'a>(file: &'a [u8], filler: &'a [u8], r: Record, entry: u32) -> &'a [u8
     }
 }
 
-// The bytes of an entry's brick, lent on: a part of the file, or the start of the filler. A refusal is an empty part of the file.
+// The bytes of an entry's brick, lent on: a part of the file, or the start of the filler. A refusal is an empty part of the file, and which refusal it is
+// `brick_view_verdict` says: no Result of both, since the docs name both functions, and `Shows (view_of ..)` speaks of the slice of a refused call too.
 pub fn brick_view<'a>(file: &'a [u8], filler: &'a [u8], r: Record, entry: u32) -> &'a [u8]
     ensures { Shows (view_of r file.now filler.now entry) file.entry filler.entry result }
 {
