@@ -1,7 +1,8 @@
 -- The verdicts of brick view and what it shows. Assumes nothing.
 use mathlib.Core.Bool.{true, false}
 use mathlib.Core.List.{List}
-use mathlib.Core.Path.{◌≡◌}
+use mathlib.Core.Logic.{◌⊎◌, ⊎_elim}
+use mathlib.Core.Path.{◌≡◌, ◌∙◌}
 use Prim.Native.Nat.{ℕ, ◌+◌, ◌-◌, ◌*◌, ◌/◌, ◌≤◌, ◌<◌}
 use native.Mathlib.Nat.{mul_assoc}
 use native.Mathlib.Omega.{arith}
@@ -90,6 +91,13 @@ module _ (r : Record) (f filler : List ℕ) (e : ℕ) where
   pub view_kind : (k : Kind) → view_verdict r f filler e ≡ Taken → kind_in r f e ≡ k → view_of r f filler e ≡ shown_of k (brick_bytes_of r.description)
   unfolding view_of
   view_kind k v q = simp (v, q)
+
+  -- a brick that is not stored: the filler is long enough, and its start is shown
+  pub filler_shown : (k : Kind) → view_verdict r f filler e ≡ Taken → kind_in r f e ≡ k → (k ≡ Missing) ⊎ ((v : ℕ) × (k ≡ Constant v))
+      → (brick_bytes_of r.description ≤ length filler) × (view_of r f filler e ≡ of_filler (brick_bytes_of r.description))
+  filler_shown k t q = ⊎_elim
+      (λ (m : k ≡ Missing). (missing-long t (q ∙ m), view_kind _ t (q ∙ m)))
+      (λ (p : (v : ℕ) × (k ≡ Constant v)). (constant_long p.0 t (q ∙ p.1), view_kind _ t (q ∙ p.1)))
 
 -- a part of the file, and the start of the filler, as they are lent on
 module _ {v : View} {file filler s : Bor (List ℕ)} where

@@ -3,14 +3,18 @@ use mathlib.Core.Bool.{Bool, true, false, not}
 use mathlib.Core.List.{List, [], ◌∷◌}
 use mathlib.Core.Logic.{⊎_elim}
 use mathlib.Core.Path.{◌≡◌, refl, sym, ap, ◌∙◌}
-use Prim.Native.Nat.{ℕ, zero, suc, ◌+◌, ◌*◌, ◌/◌, ◌%◌, ◌<◌}
+use Prim.Native.Nat.{ℕ, zero, suc, ◌+◌, ◌*◌, ◌/◌, ◌%◌, ◌≤◌, ◌<◌}
 use native.Mathlib.Omega.{arith}
 use lib.Bits.{bit_or, bit_xor, or_add_and, xor_add_and, and_le_l, and_le_r, xor_self}
 use lib.Dec.{eqb}
-use lib.ListN.{get_or}
+use lib.ListN.{get_or, length, take, drop}
+use lib.Seq.{drop-drop}
 use borrow.Author.Count.{below_more}
 use borrow.Author.Tests.{eq-eqb, eqb-true, not-false}
-use Rattle.endian.specs.Bytes.{Bytes, le, lows}
+use Rattle.std.specs.Simd.{first_chunks}
+use Rattle.std.proofs.lemmas.List.{get_or-take, length-take-le}
+use Rattle.endian.specs.Bytes.{Bytes, le, lows, peek}
+use Rattle.endian.proofs.Bytes.{le_same, le-peek}
 use Rattle.endian.proofs.Loads.{four}
 use Rattle.endian.proofs.Search.{first-is, first_before}
 use Rattle.table.specs.Entries.{Width}
@@ -29,9 +33,6 @@ pub record Gathered (f : List ℕ) (word i d : ℕ) : Type 0 where
   pub same : d ≡ 0 → Words f word i
   pub none : Words f word i → d ≡ 0
 
-pub gathered_none : (f : List ℕ) (word : ℕ) → Gathered f word 0 0
-gathered_none f word = record { same = λ e k h. absurd (omega arith); none = λ all. refl }
-
 pub gathered_more : (f : List ℕ) (word i d x : ℕ) → x ≡ le 4 f (4 * i) → Gathered f word i d → Gathered f word (i + 1) (bit_or d (bit_xor x word))
 gathered_more f word i d x e g = record {
   same = λ z.
@@ -42,14 +43,26 @@ gathered_more f word i d x e g = record {
       rw (g.none (λ k h. all k (omega arith)), y) (xor_self word);
 }
 
-pub decided : (f : List ℕ) (word i n d : ℕ) → i ≡ n → Gathered f word i d → Same f word n (eqb d 0)
-decided f word i n d e g = record {
-  holds = λ t. rw e at (g.same (eqb-true d 0 t));
-  fails = λ t all. clash (sym t ∙ eq-eqb d 0 (g.none (rw e all)));
-}
-  where
-    clash : ◌≡◌ {A = Bool} false true → ⊥
-    clash z = let w : ◌≡◌ {A = ℕ} 0 1 = cc in omega arith
+-- the n-th of the chunks of four bytes, and the number in it
+chunk_at : (k n : ℕ) (f : List ℕ) → n < k → get_or (first_chunks 4 k f) n [] ≡ peek f (4 * n) 4
+chunk_at zero n f h = elim h [ ]
+chunk_at (suc k) zero f h = refl
+chunk_at (suc k) (suc n) f h =
+    let e : 4 + 4 * n ≡ 4 * suc n = omega arith in
+    chunk_at k n (drop 4 f) (omega arith) ∙ ap (take 4) (drop-drop (4 * n) 4 f ∙ ap (λ (x : ℕ). drop x f) e)
+
+pub chunk-is : (k n : ℕ) (f : List ℕ) (c : List (List ℕ)) (x : ℕ) → c ≡ first_chunks 4 k f → n < k → x ≡ le 4 (get_or c n []) 0 → x ≡ le 4 f (4 * n)
+chunk-is k n f c x e h q = q ∙ rw (e, chunk_at k n f h) (le-peek 4 f (4 * n))
+
+-- words of the front are words of the whole
+pub same_front : (f : List ℕ) (word m : ℕ) (b : Bool) → m ≤ length f → Same (take m f) word (length (take m f) / 4) b → Same f word (m / 4) b
+same_front f word m b l s =
+    let n : length (take m f) ≡ m = length-take-le m f l in
+    let same : (i : ℕ) → i < m / 4 → le 4 (take m f) (4 * i) ≡ le 4 f (4 * i) = λ i h. le_same 4 (take m f) f (4 * i) (λ j p q. get_or-take m f j 0 (omega arith)) in
+    record {
+      holds = λ t i h. sym (same i h) ∙ s.holds t i (rw n h);
+      fails = λ t all. s.fails t (λ i h. let h' : i < m / 4 = rw n at h in same i h' ∙ all i h');
+    }
 
 -- ---- a word and its bytes
 -- what holds of 0 to 3 holds of each byte of a word
@@ -95,10 +108,6 @@ repeats_2 v h i l =
     let hb : b < 256 = omega arith in
     ap (λ (d : List ℕ). get_or d i 0) (ap (lows 4) e ∙ lows_four a b a b ha hb ha hb)
     ∙ each (λ i. get_or (a ∷ b ∷ a ∷ b ∷ []) i 0 ≡ get_or (lows 2 v) (i % 2) 0) refl f refl f i l
-
-pub repeats_4 : (v : ℕ) → Repeats 4 v v
-unfolding lows
-repeats_4 v = each (λ i. get_or (lows 4 v) i 0 ≡ get_or (lows 4 v) (i % 4) 0) refl refl refl refl
 
 module _ (f : List ℕ) (word a : ℕ) where
   word_bytes : Bytes f → le 4 f a ≡ word → (j : ℕ) → j < 4 → get_or f (a + j) 0 ≡ get_or (lows 4 word) j 0

@@ -1,7 +1,7 @@
 // Brick kind and brick view, by entry number.
 #![tactic(auto)]
 
-ghost use Rattle.std.specs.Prelude.{◌≡◌, ◌*◌, ◌^◌, ◌<◌, ◌≤◌, length};
+ghost use Rattle.std.specs.Prelude.{◌≡◌, ◌*◌, ◌^◌, ◌<◌, ◌/◌, length};
 ghost use Rattle.record.specs.Types.{width_of, value_of};
 ghost use Rattle.record.specs.Answers.{Taken, answered};
 ghost use Rattle.table.specs.Entries.{kind_in, Width, Derived};
@@ -12,7 +12,6 @@ ghost use Rattle.bricks.specs.Filler.{Narrow, Repeats, Same};
 
 use checks::check14_with;
 use cube::missing_brick;
-use endian::u32_at;
 use floats::{Item, widen_bits};
 use record::{Coding, Record, Refusal, coding_of};
 use table::{Entries, Kind, table_in};
@@ -50,15 +49,15 @@ fn kind_of_entry(file: &[u8], r: Record, entry: u32) -> Result<Kind, Refusal>
     Ok(Entries::of(file, r).kind(entry as usize))
 }
 
-// The storage value of a constant as a float, unscaled.
+// The storage value of a constant as a float, unscaled. decoding's `decode_one` has this match with `.scaled(..)` in its first arm, and says there why
+// each has its own.
 fn constant_value(datatype: u8, raw: u32) -> f64
     requires { raw < 256 ^ width_of datatype }
     ensures { result ≡ value_of datatype raw }
 {
     match coding_of(datatype) {
-        Ok(Coding::Scaled { width: _, half }) => Item { raw, half }.value(),
-        Ok(Coding::Float32 { width: _ }) => widen_bits(raw),
-        Err(_) => widen_bits(raw),
+        Ok(Coding::Scaled { half, .. }) => Item { raw, half }.value(),
+        Ok(Coding::Float32 { .. }) | Err(_) => widen_bits(raw),
     }
 }
 
@@ -94,13 +93,13 @@ fn repeated(value: u32, width: u32) -> u32
 }
 
 // No early exit: differences are gathered and tested once, which runs at memory speed.
-fn same_words(filler: &[u8], word: u32, count: usize) -> bool
-    requires { 4 * count ≤ length filler.now }
-    ensures { Same filler.now word count result }
+fn same_words(filler: &[u8], word: u32) -> bool
+    ensures { Same filler.now word (length filler.now / 4) result }
 {
+    let (words, _) = filler.as_chunks::<4>();
     let mut different = 0;
-    for i in 0..count {
-        different |= u32_at(filler, 4 * i) ^ word;
+    for bytes in words {
+        different |= u32::from_le_bytes(*bytes) ^ word;
     }
     different == 0
 }
@@ -115,8 +114,7 @@ fn check_filler(filler: &[u8], r: Record, value: u32) -> Result<(), Refusal>
     if filler.len() < bytes {
         return Err(Refusal::Room);
     }
-    let words = bytes / 4;
-    if same_words(filler, repeated(value, t.width), words) {
+    if same_words(&filler[..bytes], repeated(value, t.width)) {
         return Ok(());
     }
     Err(Refusal::Filler)
@@ -150,8 +148,7 @@ fn shown<'a>(file: &'a [u8], filler: &'a [u8], r: Record, entry: u32) -> &'a [u8
     let entries = Entries::of(file, r);
     let bytes = entries.table.brick as usize;
     match entries.kind(entry as usize) {
-        Kind::Missing => &filler[0..bytes],
-        Kind::Constant(_) => &filler[0..bytes],
+        Kind::Missing | Kind::Constant(_) => &filler[0..bytes],
         Kind::Stored(offset) => {
             let start = offset as usize;
             let end = start + bytes;
@@ -160,7 +157,8 @@ fn shown<'a>(file: &'a [u8], filler: &'a [u8], r: Record, entry: u32) -> &'a [u8
     }
 }
 
-// The bytes of an entry's brick, lent on: a part of the file, or the start of the filler. A refusal is an empty part of the file.
+// The bytes of an entry's brick, lent on: a part of the file, or the start of the filler. A refusal is an empty part of the file, and which refusal it is
+// `brick_view_verdict` says: no Result of both, since the docs name both functions, and `Shows (view_of ..)` speaks of the slice of a refused call too.
 pub fn brick_view<'a>(file: &'a [u8], filler: &'a [u8], r: Record, entry: u32) -> &'a [u8]
     ensures { Shows (view_of r file.now filler.now entry) file.entry filler.entry result }
 {

@@ -19,8 +19,8 @@ fn item(bytes: &[u8], at: usize, width: usize) -> u32
     ensures { (result ≡ le width bytes.now at) × (result < 256 ^ width) }
 {
     match width {
-        1 => u8_at(bytes, at) as u32,
-        2 => u16_at(bytes, at) as u32,
+        1 => u32::from(u8_at(bytes, at)),
+        2 => u32::from(u16_at(bytes, at)),
         _ => u32_at(bytes, at),
     }
 }
@@ -36,20 +36,20 @@ fn decode_scaled<const WIDTH: usize, const HALF: u32>(
     requires { Integers WIDTH HALF × (length bytes.now ≡ length out.old * WIDTH) }
     ensures { out.new ≡ cat (length out.old) (λ n. scaled_of HALF min max (le WIDTH bytes.now (n * WIDTH)) ∷ []) }
 {
-    for n in 0..out.len() {
+    for (n, to) in out.iter_mut().enumerate() {
         let raw = item(bytes, n * WIDTH, WIDTH);
-        out[n] = Item { raw, half: HALF }.scaled(min, max);
+        *to = Item { raw, half: HALF }.scaled(min, max);
     }
 }
 
 // Items of the float type, widened. A loop of its own: one over a closure for the item would promise only what the closure's contract says of
-// each float, and not the float itself. Its width is an argument, since the edit `width-of-int16` passes another.
-fn decode_widened(out: &mut [f64], bytes: &[u8], width: usize)
-    requires { Width width × (length bytes.now ≡ length out.old * width) }
-    ensures { out.new ≡ cat (length out.old) (λ n. widened_of (le width bytes.now (n * width)) ∷ []) }
+// each float, and not the float itself. It is called with 4 alone: its width is a parameter, as above, since the edit `width-of-int16` passes another.
+fn decode_widened<const WIDTH: usize>(out: &mut [f64], bytes: &[u8])
+    requires { Width WIDTH × (length bytes.now ≡ length out.old * WIDTH) }
+    ensures { out.new ≡ cat (length out.old) (λ n. widened_of (le WIDTH bytes.now (n * WIDTH)) ∷ []) }
 {
-    for n in 0..out.len() {
-        out[n] = widen_bits(item(bytes, n * width, width));
+    for (n, to) in out.iter_mut().enumerate() {
+        *to = widen_bits(item(bytes, n * WIDTH, WIDTH));
     }
 }
 
@@ -60,27 +60,31 @@ pub fn decode(out: &mut [f64], bytes: &[u8], datatype: u8, min: f64, max: f64)
     ensures { out.new ≡ cat (length out.old) (λ n. decode_of datatype min max (le (width_of datatype) bytes.now (n * width_of datatype)) ∷ []) }
 {
     match coding_of(datatype) {
-        Ok(Coding::Scaled { width, half: _ }) => {
+        Ok(Coding::Scaled { width, .. }) => {
             if width == 1 {
                 decode_scaled::<1, 128>(out, bytes, min, max);
             } else {
                 decode_scaled::<2, 32768>(out, bytes, min, max);
             }
         }
-        Ok(Coding::Float32 { width: _ }) => decode_widened(out, bytes, 4),
+        Ok(Coding::Float32 { .. }) => decode_widened::<4>(out, bytes),
         Err(_) => {}
     }
 }
 
-// One sample, from the unsigned number of its bytes. The ends of the coding range are two arguments here and above, as the float rules name them.
+// One sample, from the unsigned number of its bytes. The ends of the coding range are two arguments here and above, as the clauses name them: a public
+// struct of both would change these contracts. `sampling`, which holds them as one, takes them apart at each call.
+// That the number is one of so many bytes stays a clause, here and wherever one is asked for: number and width meet only in a call, the number from
+// the table's word and the width from the record, and `Item`, the type of such a pair, is of integer types only.
+// bricks' `constant_value` has this match with `.value()` in its first arm. One function for both would be public in `record`, below both crates, and
+// take the arm as a closure, whose contract would be asked for at each call: longer than two arms.
 pub fn decode_one(datatype: u8, raw: u32, min: f64, max: f64) -> f64
     requires { raw < 256 ^ width_of datatype }
     ensures { result ≡ decode_of datatype min max raw }
 {
     match coding_of(datatype) {
-        Ok(Coding::Scaled { width: _, half }) => Item { raw, half }.scaled(min, max),
-        Ok(Coding::Float32 { width: _ }) => widen_bits(raw),
-        Err(_) => widen_bits(raw),
+        Ok(Coding::Scaled { half, .. }) => Item { raw, half }.scaled(min, max),
+        Ok(Coding::Float32 { .. }) | Err(_) => widen_bits(raw),
     }
 }
 

@@ -1,9 +1,9 @@
 -- Laws of numbers written as bytes, the lowest first, and read again. Assumes nothing.
 use mathlib.Core.List.{List, [], ◌∷◌, ◌++◌, append_assoc}
 use mathlib.Core.Logic.{⊎_elim}
-use mathlib.Core.Path.{◌≡◌, refl, sym, ap, ◌∙◌}
+use mathlib.Core.Path.{◌≡◌, refl, ap, ◌∙◌}
 use Prim.Native.Nat.{ℕ, zero, suc, ◌+◌, ◌-◌, ◌*◌, ◌/◌, ◌%◌, ◌^◌, ◌≤◌, ◌<◌}
-use native.Mathlib.Nat.{pow-suc, one-le-pow, eq-or-lt_of_le, mod-lt, div-one, div-div-eq-div-mul}
+use native.Mathlib.Nat.{pow-suc, one-le-pow, eq-or-lt_of_le, mod-lt}
 use native.Mathlib.Omega.{arith}
 use lib.Arith.{mod-mul, digits_mod, digits_div}
 use lib.ListN.{length, get_or, take, drop, length-replicate, replicate-append-replicate, get_or-append}

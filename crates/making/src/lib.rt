@@ -11,9 +11,9 @@ ghost use Rattle.checks.specs.Checks.{described};
 ghost use Rattle.geometry.specs.Limits.{longest_text};
 ghost use Rattle.text.specs.Text.{Pours};
 ghost use Rattle.text.specs.Writing.{Writes};
-ghost use Rattle.making.specs.Making.{fill_by, zero_bytes, three, stored_id, file_header, brick_fields, id_fields, grid_fields, current_fields, survey_fields, unit_fields, info_header, made_file, make_verdict, make_answer, make_buffer};
+ghost use Rattle.making.specs.Making.{fill_by, zero_bytes, three, stored_id, file_header, brick_fields, id_fields, grid_fields, current_fields, survey_fields, unit_fields, info_header, made_file, make_answer, make_buffer};
 ghost use Rattle.making.specs.MadeOpens.{MadeOpens};
-ghost use Rattle.making.specs.Plan.{Measured, survey_sizes, stepped, plan_of, headed, rest_verdict};
+ghost use Rattle.making.specs.Plan.{survey_sizes, stepped, plan_of, headed, rest_verdict};
 
 use checks::{check_description, check11};
 use floats::{float_of, survey_size};
@@ -54,6 +54,14 @@ pub struct Plan {
     pub length: u64,
 }
 
+// A description and its text, once checks 4 to 9 have passed.
+#[derive(Clone, Copy)]
+struct Described<'a> {
+    d: Description,
+    text: &'a [u8],
+    ghost taken: { described d (length text.now) ≡ Taken },
+}
+
 // n zeros.
 fn push_zeros(out: &mut Writer, n: usize)
     ensures { Writes out.old (zero_bytes n) out.new }
@@ -75,6 +83,7 @@ fn push_u64(out: &mut Writer, n: u64)
     out.push_bytes(&n.to_le_bytes());
 }
 
+// Three numbers of 32 bits. No loop over them: it would need an invariant, where three calls need none.
 fn push_three(out: &mut Writer, ns: [u32; 3])
     ensures { Writes out.old (three ns) out.new }
 {
@@ -141,11 +150,11 @@ fn push_current_fields(out: &mut Writer, d: Description)
     push_zeros(out, 32);
 }
 
-// The bits of inc x size in each direction. What the checks say of a description stands at each function after them: it may be lent in any state.
-fn survey_sizes(d: Description) -> [u32; 3]
-    requires { Measured d }
-    ensures { result ≡ survey_sizes d }
+// The bits of inc x size in each direction.
+fn survey_sizes(cube: Described) -> [u32; 3]
+    ensures { result ≡ survey_sizes cube.entry.d }
 {
+    let d = cube.d;
     [
         survey_size(float_of(d.inc[0]), d.size[0]),
         survey_size(float_of(d.inc[1]), d.size[1]),
@@ -154,12 +163,11 @@ fn survey_sizes(d: Description) -> [u32; 3]
 }
 
 // The survey's extent, which is the whole cube, and the kind of grid definition, 3.
-fn push_survey_fields(out: &mut Writer, d: Description)
-    requires { Measured d }
-    ensures { Writes out.old (survey_fields d) out.new }
+fn push_survey_fields(out: &mut Writer, cube: Described)
+    ensures { Writes out.old (survey_fields cube.entry.d) out.new }
 {
-    let sizes = survey_sizes(d);
-    push_three(out, d.orig);
+    let sizes = survey_sizes(cube);
+    push_three(out, cube.d.orig);
     push_three(out, sizes);
     out.push(3);
 }
@@ -174,29 +182,28 @@ fn push_unit_fields(out: &mut Writer, d: Description)
     push_u64(out, d.vfactor);
 }
 
-// InfoHeader, with a text of `text` bytes.
-fn push_info_header(out: &mut Writer, d: Description, text: u32)
-    requires { Measured d }
-    ensures { Writes out.old (info_header d text) out.new }
+// InfoHeader, with the text's length.
+fn push_info_header(out: &mut Writer, cube: Described)
+    ensures { Writes out.old (info_header cube.entry.d (length cube.entry.text.now)) out.new }
 {
+    let d = cube.d;
     push_brick_fields(out, d);
     push_id_fields(out, d);
     push_grid_fields(out, d);
     push_current_fields(out, d);
-    push_survey_fields(out, d);
+    push_survey_fields(out, cube);
     push_zeros(out, 128);
     push_unit_fields(out, d);
-    push_u32(out, text);
+    push_u32(out, cube.text.len() as u32);
 }
 
 // The file header, InfoHeader, the text and an empty histogram.
-fn push_headers(out: &mut Writer, d: Description, text: &[u8])
-    requires { described d (length text.now) ≡ Taken }
-    ensures { Writes out.old (headed d text.now) out.new }
+fn push_headers(out: &mut Writer, cube: Described)
+    ensures { Writes out.old (headed cube.entry.d cube.entry.text.now) out.new }
 {
     push_file_header(out);
-    push_info_header(out, d, text.len() as u32);
-    out.push_bytes(text);
+    push_info_header(out, cube);
+    out.push_bytes(cube.text);
     push_zeros(out, 2064);
 }
 
@@ -210,15 +217,13 @@ fn push_entries(out: &mut Writer, count: usize, first: u64, step: u64)
     }
 }
 
-// The numbers of a cube with this description and a text of `text` bytes. Description, text and fill are the three arguments of `make`, and go
-// through its checks as they were lent.
-fn plan_of(d: Description, text: u32, fill: Fill) -> Plan
-    requires { described d text ≡ Taken }
-    ensures { result ≡ plan_of d text fill }
+// The numbers of a cube.
+fn plan_of(cube: Described, fill: Fill) -> Plan
+    ensures { result ≡ plan_of cube.entry.d (length cube.entry.text.now) fill }
 {
-    let shape = shape_in(d);
-    let brick = brick_bytes_in(d);
-    let header = header_end(text as u64, shape.alphas, shape.bricks);
+    let shape = shape_in(cube.d);
+    let brick = brick_bytes_in(cube.d);
+    let header = header_end(cube.text.len() as u64, shape.alphas, shape.bricks);
     let start = header.next_multiple_of(brick);
     let after = start - header + shape.bricks * brick;
     match fill {
@@ -249,36 +254,25 @@ fn text_length(n: usize) -> u32
 }
 
 // Checks 11 and 18.
-fn check_rest(d: Description, text: &[u8], fill: Fill, room: u64) -> Result<(), Refusal>
-    requires { described d (length text.now) ≡ Taken }
-    ensures { result ≡ rest_verdict d text.now fill room }
+fn check_rest(cube: Described, fill: Fill, room: u64) -> Result<(), Refusal>
+    ensures { result ≡ rest_verdict cube.entry.d cube.entry.text.now fill room }
 {
-    if check11(text) {
+    if check11(cube.text) {
         return Err(Refusal::Text);
     }
-    let plan = plan_of(d, text.len() as u32, fill);
-    if room < plan.length {
+    if room < plan_of(cube, fill).length {
         return Err(Refusal::Room);
     }
     Ok(())
 }
 
-// Checks 4 to 9, 11 and 18.
-fn check_making(d: Description, text: &[u8], fill: Fill, room: u64) -> Result<(), Refusal>
-    ensures { result ≡ make_verdict d text.now fill room }
-{
-    check_description(d, text_length(text.len()))?;
-    check_rest(d, text, fill, room)
-}
-
 // The file, once nothing refuses it, and its length.
-fn push_cube(out: &mut [u8], d: Description, text: &[u8], fill: Fill) -> usize
-    requires { described d (length text.now) ≡ Taken }
-    ensures { Pours out.old 0 (made_file d text.now fill) out.new result }
+fn push_cube(out: &mut [u8], cube: Described, fill: Fill) -> usize
+    ensures { Pours out.old 0 (made_file cube.entry.d cube.entry.text.now fill) out.new result }
 {
-    let plan = plan_of(d, text.len() as u32, fill);
+    let plan = plan_of(cube, fill);
     let mut file = Writer::new(out);
-    push_headers(&mut file, d, text);
+    push_headers(&mut file, cube);
     push_zeros(&mut file, 8 * plan.alphas as usize);
     push_entries(&mut file, plan.bricks as usize, plan.first, plan.step);
     push_zeros(&mut file, plan.after as usize);
@@ -291,8 +285,10 @@ pub fn make(out: &mut [u8], d: Description, text: &[u8], fill: Fill) -> Result<u
     ensures answer { result ≡ make_answer d text.now fill (length out.old) }
     ensures buffer { out.new ≡ make_buffer d text.now fill out.old }
 {
-    check_making(d, text, fill, out.len() as u64)?;
-    Ok(push_cube(out, d, text, fill) as u64)
+    check_description(d, text_length(text.len()))?;
+    let cube = Described { d, text };
+    check_rest(cube, fill, out.len() as u64)?;
+    Ok(push_cube(out, cube, fill) as u64)
 }
 
 // A cube that make makes opens again, with the same description, text and bricks: a theorem, stated where a reader of the source

@@ -1,5 +1,5 @@
 // Buffers that calls are lent: what they hold before a call, and the hash that shows them after it.
-ghost use Rattle.std.specs.Prelude.{◌≡◌, length};
+ghost use Rattle.std.specs.Prelude.{◌≡◌, ◌+◌, ◌*◌, length};
 
 use std::fmt;
 
@@ -84,6 +84,13 @@ impl fmt::Display for Filler {
     }
 }
 
+// A number by its low and its high half, as a call or a change gives one.
+pub fn from_halves(low: u32, high: u32) -> u64
+    ensures { result ≡ low + high * 4294967296 }
+{
+    u64::from(low) + u64::from(high) * 4294967296
+}
+
 // Puts 8 bytes, given as the low and the high half of a number, where there is room for them. The place is one that a call names, and none that
 // goes on.
 pub fn put(out: &mut [u8], at: usize, low: u32, high: u32)
@@ -93,6 +100,6 @@ pub fn put(out: &mut [u8], at: usize, low: u32, high: u32)
         return;
     };
     if let Some(place) = tail.first_chunk_mut::<8>() {
-        *place = (u64::from(low) + u64::from(high) * 4294967296).to_le_bytes();
+        *place = from_halves(low, high).to_le_bytes();
     }
 }

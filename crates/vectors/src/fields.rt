@@ -1,4 +1,5 @@
 // Records with a changed field: a call with one is refused, or makes another cube.
+use crate::buffers::from_halves;
 use floats::float_of;
 use record::Record;
 use std::fmt;
@@ -14,7 +15,8 @@ pub struct Change {
 }
 
 impl Change {
-    // The record with the change.
+    // The record with the change. Without a clause: which part of the record a field's number changes is the match itself, and an equation would be
+    // its 21 arms once more. What is printed of the calls after a change is compared with `stdout`.
     pub fn made_in(self, mut r: Record) -> Record {
         let Change {
             field,
@@ -22,7 +24,7 @@ impl Change {
             low,
             high,
         } = self;
-        let long = u64::from(low) + u64::from(high) * 4294967296;
+        let long = from_halves(low, high);
         let [byte, ..] = low.to_le_bytes();
         let part = (part as usize).min(2);
         match field {

@@ -81,27 +81,27 @@ fn run_cube(rt: &impl Print, held: &mut [u8], length: usize, calls: &[u8]) -> io
     Ok(())
 }
 
-// Reads a file, by its name. Answers how many bytes of it there are. One that does not open counts as empty.
-fn read_named(rt: &(impl Files + Eprint), out: &mut [u8], name: &[u8]) -> usize
-    ensures { IsPrefixLen result out.new }
+// Reads a file, by its name, and hands on the part of the buffer that it fills. One that does not open counts as empty.
+fn read_named<'a>(rt: &(impl Files + Eprint), out: &'a mut [u8], name: &[u8]) -> &'a [u8]
+    ensures { length result.now ≤ length out.old }
 {
     let Ok(Some(mut file)) = open_named(rt, name) else {
-        return 0;
+        return &out[..0];
     };
     let (n, _) = read_full(&mut file, out);
-    n
+    &out[..n]
 }
 
 // The cube and the calls that two arguments name.
 fn run_pair(rt: &(impl Files + Print + Eprint), cube: &[u8], list: &[u8]) -> io::Result<()> {
     let mut held = [0u8; HELD];
-    let mut calls = [0u8; HELD];
+    let mut buffer = [0u8; HELD];
     print!(rt; "cube ")?;
     rt.write_all(cube)?;
     println!(rt)?;
-    let length = read_named(rt, &mut held, cube);
-    let end = read_named(rt, &mut calls, list);
-    run_cube(rt, &mut held, length, &calls[..end])
+    let length = read_named(rt, &mut held, cube).len();
+    let calls = read_named(rt, &mut buffer, list);
+    run_cube(rt, &mut held, length, calls)
 }
 
 fn main(rt: HostRuntime) -> io::Result<()> {

@@ -1,4 +1,3 @@
 -- Laws of the C calls' answers.
-pub mod Answers
 pub mod Views
 pub mod Strings

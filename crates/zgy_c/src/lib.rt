@@ -198,14 +198,7 @@ fn part(kind: Kind, length: u64) -> ZgyView
     ensures { result ≡ part_c (shown_of kind length) }
 {
     match kind {
-        Kind::Missing => ZgyView {
-            number: 0,
-            entry: 0,
-            source: 2,
-            offset: 0,
-            length,
-        },
-        Kind::Constant(_) => ZgyView {
+        Kind::Missing | Kind::Constant(_) => ZgyView {
             number: 0,
             entry: 0,
             source: 2,
@@ -222,8 +215,8 @@ fn part(kind: Kind, length: u64) -> ZgyView
     }
 }
 
-// A view that is refused. No From: a view that is taken needs its slices beside it, and of two ways to make one struct the reader would have to
-// look for both.
+// A view that is refused. No From: a view that is taken is made by `part`, which needs the brick's length too, and of two ways to make one struct the
+// reader would have to look for both.
 fn nowhere(x: Refusal) -> ZgyView
     ensures { result ≡ record { number = number x; entry = entry x; source = 0; offset = 0; length = 0 } }
 {

@@ -1,7 +1,7 @@
-use mathlib.Core.Path.{◌≡◌, sym, ap, ◌∙◌}
+use mathlib.Core.Path.{sym, ◌∙◌}
 use Rattle.std.proofs.lemmas.Result.{err_from_is_err_and}
 use Rattle.record.proofs.Laws.{answered_ok, answered_err}
-use Rattle.bricks.specs.Bricks.{brick_of, kind_answer}
+use Rattle.bricks.specs.Bricks.{kind_answer}
 use Rattle.bricks.proofs.Entries.{narrow_in}
 use Rattle.bricks.proofs.brick_kind.Goals as goal
 

@@ -6,7 +6,7 @@ use Rattle.table.specs.declared.Kind.TheVariants.{Constant}
 use Rattle.table.proofs.Tables.{derived, brick-is, width_is}
 use Rattle.cube.specs.Places.{item_bytes, raw_of}
 use Rattle.bricks.specs.Bricks.{filled_with, fill_of}
-use Rattle.bricks.proofs.Words.{filled_is}
+use Rattle.bricks.proofs.Words.{filled_is, same_front}
 use Rattle.bricks.proofs.Views.{brick_words, filler_18, filler_17, filler_taken}
 use Rattle.bricks.proofs.check_filler.Goals as goal
 
@@ -27,7 +27,7 @@ returns-then-same_words c =
     let p = derived _ c.requires.0 in
     filled_is _ _ c.args.value c.repeated.result (described-width _ _ p)
     (rw (width_is _ _ c.table_in-t.ensures) at c.repeated.ensures) _ _ _
-    (λ i. (c.type_inv.filler i).fits) (omega (arith, c.repeated.type_inv)) (rw brick (brick_words _ _ p)) c.same_words.ensures in
+    (λ i. (c.type_inv.filler i).fits) (omega (arith, c.repeated.type_inv)) (rw brick (brick_words _ _ p)) (same_front _ _ _ _ (omega (arith, brick)) c.same_words.ensures) in
     sym (filler_taken _ _ _ (omega (arith, brick)) (sym judged ∙ c.if-same_words.true))
 
 pub returns : goal.returns
@@ -38,5 +38,5 @@ returns c =
     let p = derived _ c.requires.0 in
     filled_is _ _ c.args.value c.repeated.result (described-width _ _ p)
     (rw (width_is _ _ c.table_in-t.ensures) at c.repeated.ensures) _ _ _
-    (λ i. (c.type_inv.filler i).fits) (omega (arith, c.repeated.type_inv)) (rw brick (brick_words _ _ p)) c.same_words.ensures in
+    (λ i. (c.type_inv.filler i).fits) (omega (arith, c.repeated.type_inv)) (rw brick (brick_words _ _ p)) (same_front _ _ _ _ (omega (arith, brick)) c.same_words.ensures) in
     sym (filler_17 _ _ _ (omega (arith, brick)) (sym judged ∙ c.if-same_words.false))

@@ -5,7 +5,7 @@ use lib.ListN.{length}
 use Rattle.table.specs.Entries.{kind_in}
 use Rattle.table.proofs.Tables.{brick-is, kind_is}
 use Rattle.bricks.proofs.Entries.{Seen, seen, seen_made, seen_in, stored_in}
-use Rattle.bricks.proofs.Views.{view_parts, missing-long, constant_long, view_kind, shows_file, shows_filler}
+use Rattle.bricks.proofs.Views.{view_parts, filler_shown, view_kind, shows_file, shows_filler}
 use Rattle.bricks.proofs.shown.Goals as goal
 
 pub of-entries-requires : goal.of-entries-requires
@@ -22,14 +22,7 @@ pub slice_bounds-result-end : goal.slice_bounds-result-end
 slice_bounds-result-end c =
     let by_table = rw c.of-entries.ensures.file at c.kind.ensures in
     let named : c.kind.result ≡ kind_in c.args.r c.args.file.now c.args.entry = by_table ∙ kind_is _ _ c.of-entries.ensures.table _ _ in
-    let l = missing-long _ _ _ _ c.requires (sym named ∙ c.in-Missing.is) in
-    omega (arith, brick-is _ _ c.of-entries.ensures.table)
-
-pub slice_bounds-result-end-in-Constant : goal.slice_bounds-result-end-in-Constant
-slice_bounds-result-end-in-Constant c =
-    let by_table = rw c.of-entries.ensures.file at c.kind.ensures in
-    let named : c.kind.result ≡ kind_in c.args.r c.args.file.now c.args.entry = by_table ∙ kind_is _ _ c.of-entries.ensures.table _ _ in
-    let l = constant_long _ _ _ _ _ c.requires (sym named ∙ c.in-Constant.is) in
+    let l = (filler_shown _ _ _ _ _ c.requires (sym named) c.in-Missing.is).0 in
     omega (arith, brick-is _ _ c.of-entries.ensures.table)
 
 pub overflow_add-end : goal.overflow_add-end
@@ -54,14 +47,7 @@ pub returns-in-Missing : goal.returns-in-Missing
 returns-in-Missing c =
     let by_table = rw c.of-entries.ensures.file at c.kind.ensures in
     let named : c.kind.result ≡ kind_in c.args.r c.args.file.now c.args.entry = by_table ∙ kind_is _ _ c.of-entries.ensures.table _ _ in
-    shows_filler _ _ (view_kind _ _ _ _ _ c.requires (sym named ∙ c.in-Missing.is))
-    (brick-is _ _ c.of-entries.ensures.table) refl refl
-
-pub returns-in-Constant : goal.returns-in-Constant
-returns-in-Constant c =
-    let by_table = rw c.of-entries.ensures.file at c.kind.ensures in
-    let named : c.kind.result ≡ kind_in c.args.r c.args.file.now c.args.entry = by_table ∙ kind_is _ _ c.of-entries.ensures.table _ _ in
-    shows_filler _ _ (view_kind _ _ _ _ _ c.requires (sym named ∙ c.in-Constant.is))
+    shows_filler _ _ (filler_shown _ _ _ _ _ c.requires (sym named) c.in-Missing.is).1
     (brick-is _ _ c.of-entries.ensures.table) refl refl
 
 pub returns-in-Stored : goal.returns-in-Stored

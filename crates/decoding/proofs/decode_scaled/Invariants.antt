@@ -1,6 +1,5 @@
 use mathlib.Core.List.{◌∷◌, []}
-use Prim.Native.Nat.{◌-◌, ◌*◌}
-use lib.ListN.{length}
+use Prim.Native.Nat.{◌*◌}
 use Rattle.endian.specs.Loops.{cat}
 use Rattle.endian.specs.Bytes.{le}
 use Rattle.floats.specs.Rules.{scaled_of}

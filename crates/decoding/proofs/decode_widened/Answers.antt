@@ -10,12 +10,12 @@ use Rattle.decoding.proofs.decode_widened.Goals as goal
 
 pub loop-n-init : goal.loop-n-init
 unfolding cat
-loop-n-init c = filled_none _
+loop-n-init g c = filled_none _
 
 pub loop-n-preserved : goal.loop-n-preserved
-loop-n-preserved c =
+loop-n-preserved g c =
     items_more
-    (λ n. widened_of (le c.args.width c.args.bytes.now (n * c.args.width)))
+    (λ n. widened_of (le g.row.WIDTH c.args.bytes.now (n * g.row.WIDTH)))
     _
     c.loop-n.invariant
     (omega (arith, c.loop-n.invariant.size, c.loop-n-test.true))

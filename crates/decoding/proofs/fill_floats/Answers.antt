@@ -1,4 +1,4 @@
-use mathlib.Core.Path.{sym, ◌∙◌}
+use mathlib.Core.Path.{◌∙◌}
 use Rattle.decoding.proofs.Items.{replicate_cat}
 use Rattle.decoding.proofs.fill_floats.Goals as goal
 

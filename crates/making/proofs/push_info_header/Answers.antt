@@ -1,6 +1,11 @@
+use native.Mathlib.Omega.{arith}
 use Rattle.text.proofs.Pour.{writes_step}
 use Rattle.making.specs.Making.{info_header}
+use Rattle.making.proofs.Sizes.{text_few}
 use Rattle.making.proofs.push_info_header.Goals as goal
+
+pub overflow_cast-cube : goal.overflow_cast-cube
+overflow_cast-cube c = record { fits = omega (arith, text_few _ _ c.args.cube.taken) }
 
 pub returns : goal.returns
 unfolding info_header
