@@ -23,7 +23,10 @@ pub fn read_full<R: Read>(from: &mut R, out: &mut [u8]) -> (usize, io::Result<()
     ensures end { OnOk result.1 (result.0 < length out.new → IsAtEnd (R.remaining from.new)) }
 {
     let mut done = 0;
-    while done < out.len() {
+    for _ in 0..out.len() {
+        if done == out.len() {
+            break;
+        }
         match from.read(&mut out[done..]) {
             Ok(0) => return (done, Ok(())),
             Ok(n) => done += n,

@@ -19,11 +19,11 @@ put_part a k n xs ys within fits =
     let after = post_of a k xs in
     ap (take ((a + n) - a)) (drop_at (take a xs) (ys ++ after) a (length-take-le a xs within)) ∙ ap (λ m. take m (ys ++ after)) count ∙ take-append-le n ys after fits
 
-pub loop-done-preserved : goal.loop-done-preserved
-loop-done-preserved g c =
-    let at = c.loop-done.done in
-    let room = length c.loop-done.out - at in
-    let within = c.loop-done.invariant.1 in
-    let part = put_part at room c.in-Ok.n c.loop-done.out c.read.new.buf within c.in-Ok.ensures.bound.0 in
-    let joined = front_then_part at (at + c.in-Ok.n) c.loop-done.out (put_mid at room c.loop-done.out c.read.new.buf) (omega arith) (take-put_mid_below _ _ _ _ _ (le_refl _) within) in
-    (search rules, search rules, subst (Consumes _ _) (ap (λ l. take at c.loop-done.out ++ l) (sym part) ∙ joined) (Consumes-trans _ _ _ _ _ c.loop-done.invariant.2 c.in-Ok.ensures.bytes.0))
+pub loop-preserved : goal.loop-preserved
+loop-preserved g c =
+    let at = c.loop.done in
+    let room = length c.loop.out - at in
+    let within = c.loop.invariant.2 in
+    let part = put_part at room c.in-Ok.n c.loop.out c.read.new.buf within c.in-Ok.ensures.bound.0 in
+    let joined = front_then_part at (at + c.in-Ok.n) c.loop.out (put_mid at room c.loop.out c.read.new.buf) (omega arith) (take-put_mid_below _ _ _ _ _ (le_refl _) within) in
+    (search rules, search rules, search rules, subst (Consumes _ _) (ap (λ l. take at c.loop.out ++ l) (sym part) ∙ joined) (Consumes-trans _ _ _ _ _ c.loop.invariant.3 c.in-Ok.ensures.bytes.0))
