@@ -23,6 +23,7 @@ pub fn read_full<R: Read>(from: &mut R, out: &mut [u8]) -> (usize, io::Result<()
     ensures end { OnOk result.1 (result.0 < length out.new → IsAtEnd (R.remaining from.new)) }
 {
     let mut done = 0;
+    // Each turn ends the loop or fills a byte or more, so this many are enough; how far one goes is the reader's matter.
     for _ in 0..out.len() {
         if done == out.len() {
             break;
