@@ -12,7 +12,8 @@ use geometry::entry_at;
 use record::Record;
 use table::{Kind, kind_at};
 
-// A region of a cube, with its lattice.
+// A region of a cube, with its lattice. Reads and writes make it by a literal: a function would have to say of each of the three fields what it is,
+// and its callers would go on from what it says instead of from what they hold.
 #[derive(Clone, Copy)]
 pub struct Site<'a> {
     pub record: &'a Record,

@@ -40,6 +40,8 @@ fn shown<T>(items: &[T], moved: Result<u64, Refusal>, most: usize) -> &[T]
     }
 }
 
+// Each of these makes a call and prints its line. File and setting make no struct: the call that opens changes the setting, and the one that writes
+// changes the file, so that each would need a struct of its own.
 // Opens what is lent. Refused, the record stays.
 pub fn say_opened(rt: &impl Print, file: &[u8], s: &mut Setting) -> io::Result<()> {
     let cube = open(file);

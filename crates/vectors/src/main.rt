@@ -107,6 +107,7 @@ fn run_pair(rt: &(impl Files + Print + Eprint), cube: &[u8], list: &[u8]) -> io:
 fn main(rt: HostRuntime) -> io::Result<()> {
     let mut cube_buffer = [0u8; LONGEST_NAME];
     let mut list_buffer = [0u8; LONGEST_NAME];
+    // By their numbers: std's iterator of arguments copies all onto the heap, and gives none where one of them is not text.
     for i in (1..usize::MAX).step_by(2) {
         let Some(cube) = argument(&rt, i, &mut cube_buffer) else {
             break;
