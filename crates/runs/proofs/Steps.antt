@@ -1,5 +1,5 @@
--- One turn of a loop over a vertical run: the samples that lie in the brick of the next. Assumes nothing.
-use Prim.Native.Nat.{ℕ, ◌+◌, ◌-◌, ◌*◌, ◌%◌, ◌≤◌, ◌<◌, min}
+-- What a taken verdict gives the loops over a region, and a turn of a loop over a vertical run. Assumes nothing.
+use Prim.Native.Nat.{ℕ, ◌+◌, ◌*◌, ◌%◌, ◌≤◌, ◌<◌}
 use mathlib.Core.Path.{◌≡◌, sym, ap, ◌∙◌}
 use mathlib.Core.List.{List}
 use native.Mathlib.Omega.{arith}
@@ -21,6 +21,7 @@ use Rattle.cube.proofs.Places.{sides, brick-lt}
 use Rattle.cube.proofs.Regions.{Passed, touched_fits, all-inside}
 use Rattle.cube.proofs.Writes.{Kept, kept_kind}
 use Rattle.runs.specs.declared.Lattice.{Lattice}
+use Rattle.runs.specs.Boxes.{Along}
 use Rattle.runs.specs.Runs.{lattice_of, Allowed, Placed, Ready, Laid, Holds}
 
 -- ---- from the verdict to the loops
@@ -97,23 +98,10 @@ module _ (r : Record) (f : List ℕ) (g : Region) (q : Lattice) (h : Ready r f g
 
 -- ---- a turn
 
--- what is known of c, the samples that a turn moves from the t-th of a run's n
-pub record Step (r : Record) (g : Region) (t n c : ℕ) : Type 0 where
-  pub some : 0 < c
-  pub left : t + c ≤ n
-  pub brick : (start_of g 2 + t) % side_of r.description 2 + c ≤ side_of r.description 2
-  pub bytes : t * item_bytes r + c * item_bytes r ≤ n * item_bytes r
-
-pub step : (r : Record) (g : Region) (t n c : ℕ) → Fit r → t < n → c ≡ min (side_of r.description 2 - (start_of g 2 + t) % side_of r.description 2) (n - t) → Step r g t n c
-step r g t n c ok l e =
-    let m = mod-lt (start_of g 2 + t) (sides r ok).2 in
-    let h : t + c ≤ n = omega arith in
-    record { some = omega arith; left = h; brick = omega arith; bytes = omega (arith, mul-le-mul_right (item_bytes r) h) }
-
 -- the bytes that a turn moves are the brick's
-pub step_fits : (r : Record) (g : Region) (i j t n c o : ℕ) → Fit r → Step r g t n c → o + (item_no r (place g i j t) + c) * item_bytes r ≤ o + brick_length r
+pub step_fits : (r : Record) (g : Region) (i j t c o : ℕ) → Fit r → Along r g 2 t c → o + (item_no r (place g i j t) + c) * item_bytes r ≤ o + brick_length r
 unfolding item_no brick_bytes_of
-step_fits r g i j t n c o ok s =
+step_fits r g i j t c o ok s =
     let s1 : ℕ = side_of r.description 1 in
     let s2 : ℕ = side_of r.description 2 in
     let x : ℕ = (start_of g 0 + i) % side_of r.description 0 in

@@ -1,12 +1,11 @@
 // A region among the bricks of its level, and in a file.
-ghost use Rattle.std.specs.Prelude.{◌≡◌, ◌+◌, ◌-◌, ◌%◌, ◌<◌, min, length};
+ghost use Rattle.std.specs.Prelude.{◌≡◌, length};
 ghost use Rattle.endian.specs.Loops.{tri};
-ghost use Rattle.record.specs.Record.{side_of};
 ghost use Rattle.cube.specs.Places.{Inside, brick_of, item_no, kind_in};
-ghost use Rattle.cube.specs.Regions.{start_of, run_of, place};
+ghost use Rattle.cube.specs.Regions.{run_of, place};
 ghost use Rattle.runs.specs.Runs.{Laid, Ready, Holds};
 
-use crate::{Lattice, beyond, left, over};
+use crate::{Lattice, beyond, over};
 use cube::Region;
 use geometry::entry_at;
 use record::Record;
@@ -86,14 +85,6 @@ impl<'a> Site<'a> {
         let y = beyond(q.start1 + j, q.side1);
         let z = beyond(q.start2 + k, q.side2);
         (x * q.side1 + y) * q.side2 + z
-    }
-
-    // How many of the next n samples of a vertical run lie in the brick of the first, which is k past the region's start.
-    pub fn down(&self, k: usize, n: usize) -> usize
-        requires { self.now.lattice.start2 + k < 4294967296 }
-        ensures { result ≡ min (side_of self.now.record.now.description 2 - (start_of self.now.region.now 2 + k) % side_of self.now.record.now.description 2) n }
-    {
-        left(self.lattice.start2, k, self.lattice.side2, n)
     }
 }
 

@@ -1,5 +1,5 @@
 -- The turns of the loops of a write: what the calls of a turn answered comes in as equations. Assumes nothing.
-use Prim.Native.Nat.{ℕ, ◌/◌, ◌+◌, ◌-◌, ◌*◌, ◌%◌, ◌≤◌, ◌<◌, min, zero-le}
+use Prim.Native.Nat.{ℕ, ◌/◌, ◌+◌, ◌-◌, ◌*◌, ◌≤◌, ◌<◌, zero-le}
 use mathlib.Core.Path.{◌≡◌, refl, sym, ap, subst, ◌∙◌}
 use mathlib.Core.Logic.{inl, inr}
 use mathlib.Core.List.{List, ◌++◌}
@@ -10,12 +10,11 @@ use lib.ListN.{length, take, drop, length-append, length-drop}
 use lib.Seq.{drop-drop, take_at, drop_at}
 use Rattle.endian.specs.Loops.{up}
 use Rattle.endian.specs.Bytes.{peek, put}
-use Rattle.record.specs.Record.{side_of}
 use Rattle.record.specs.declared.Record.{Record}
 use Rattle.cube.specs.declared.Region.{Region}
 use Rattle.cube.specs.Places.{item_bytes, Inside, kind_in, brick_of, item_no, byte_of}
 use Rattle.table.specs.Entries.{offset_in}
-use Rattle.cube.specs.Regions.{start_of, run_of, place, size_of, chunk}
+use Rattle.cube.specs.Regions.{run_of, place, size_of, chunk}
 use Rattle.endian.proofs.Cats.{up-add}
 use Rattle.endian.proofs.Puts.{length-peek}
 use Rattle.cube.proofs.Places.{brick-lt, byte_above}
@@ -23,8 +22,9 @@ use Rattle.cube.proofs.Regions.{Held}
 use Rattle.cube.proofs.Runs.{run_write}
 use Rattle.cube.proofs.Writes.{Kept, kept_refl}
 use Rattle.runs.specs.declared.Lattice.{Lattice}
-use Rattle.runs.proofs.Lattices.{numbers}
-use Rattle.runs.proofs.Steps.{ready_fit, width_of, placed, counts, ready-width, Step, step, step_fits}
+use Rattle.runs.proofs.Steps.{width_of, counts, ready-width, step_fits}
+use Rattle.runs.proofs.Rows.{along_in}
+use Rattle.runs.specs.Boxes.{Along}
 use Rattle.writing.specs.Writes.{run_bytes, plane_bytes, sample_to, Writable}
 use Rattle.writing.proofs.Keeps.{fit_in, covers-all, run_kept, writable_kept}
 
@@ -35,19 +35,19 @@ module _ {A : Type 0} where
 
 -- ---- a vertical run, of which d has the bytes
 
-module _ (r : Record) (f : List ℕ) (g : Region) (q : Lattice) (h : Writable r f g q) (i j k n c : ℕ) (hi : i < run_of g 0) (hj : j < run_of g 1) (hk : k < run_of g 2)
-    (s : Step r g k n c) where
+module _ (r : Record) (f : List ℕ) (g : Region) (q : Lattice) (h : Writable r f g q) (i j k c : ℕ) (hi : i < run_of g 0) (hj : j < run_of g 1)
+    (s : Along r g 2 k c) where
   held : Held r f (place g i j k)
-  held = covers-all r f g q h i j k hi hj hk
+  held = covers-all r f g q h i j k hi hj (along_in s)
 
   -- the items that a turn writes are the brick's
   in_brick : held.offset + (item_no r (place g i j k) + c) * item_bytes r ≤ length f
-  in_brick = le_trans (step_fits r g i j k n c held.offset (fit_in r f g q h) s) held.high
+  in_brick = le_trans (step_fits r g i j k c held.offset (fit_in r f g q h) s) held.high
 
-  module _ (d : List ℕ) (full : length d ≡ run_bytes r g) (l : k + c ≤ run_of g 2) where
+  module _ (d : List ℕ) (full : length d ≡ run_bytes r g) where
     -- and the run has their bytes
     in_run : (k + c) * item_bytes r ≤ length d
-    in_run = omega (arith, full, mul-le-mul_right (item_bytes r) l)
+    in_run = omega (arith, full, mul-le-mul_right (item_bytes r) s.within)
 
     -- one put for the samples of a turn
     one-put : put f (held.offset + item_no r (place g i j k) * item_bytes r) (peek d (k * item_bytes r) (c * item_bytes r)) ≡ up c (λ t. sample_to r g i j d (k + t)) f
@@ -82,46 +82,31 @@ pub run_more : (r : Record) (g : Region) (i j : ℕ) (d : List ℕ) (k c : ℕ) 
     → f' ≡ up (k + c) (sample_to r g i j d) f₀
 run_more r g i j d k c f₀ f f' e e' = e' ∙ ap (up c (λ t. sample_to r g i j d (k + t))) e ∙ sym (up-add k c (sample_to r g i j d) f₀)
 
--- a turn of the loop over a run, of which k samples are written
-module _ {r : Record} {f₀ : List ℕ} {g : Region} {q : Lattice} (h : Writable r f₀ g q) {i j k : ℕ} (at : (i < run_of g 0) × (j < run_of g 1)) (more : k < q.count2) where
-  pub turn_here : k < run_of g 2
-  turn_here = omega (arith, (counts r f₀ g q h.ready).2, more)
-
+-- a turn of the loop over a run, of which k samples are written: the c that lie in one brick
+module _ {r : Record} {f₀ : List ℕ} {g : Region} {q : Lattice} (h : Writable r f₀ g q) {i j k c : ℕ} (at : (i < run_of g 0) × (j < run_of g 1)) (a : Along r g 2 k c) where
   pub turn_inside : Inside r (place g i j k)
-  turn_inside = h.ready.inside i j k at.0 at.1 turn_here
+  turn_inside = h.ready.inside i j k at.0 at.1 (along_in a)
 
-  pub turn_near : q.start2 + k < 4294967296
-  turn_near = omega (arith, (numbers r g q i j k (placed r f₀ g q h.ready i j k at.0 at.1 turn_here)).at2)
-
-  module _ {c : ℕ} (ec : c ≡ min (side_of r.description 2 - (start_of g 2 + k) % side_of r.description 2) (q.count2 - k)) where
-    pub turn_step : Step r g k q.count2 c
-    turn_step = step r g k q.count2 c (ready_fit r f₀ g q h.ready) more ec
-
-    turn_within : k + c ≤ run_of g 2
-    turn_within = omega (arith, turn_step.left, (counts r f₀ g q h.ready).2)
-
-    -- the bytes of a turn lie in the run, of which d has the bytes
-    pub turn_part : {w : ℕ} → w ≡ q.width → (d : List ℕ) → length d ≡ run_bytes r g → k * w + c * w ≤ length d
-    turn_part {w} ew d full =
-        let some : (k + c) * item_bytes r ≤ length d = omega (arith, full, mul-le-mul_right (item_bytes r) turn_within) in
-        rw (ew, ready-width r f₀ g q h.ready) (omega (arith, some, add-mul k c (item_bytes r)))
+  -- the bytes of a turn lie in the run, of which d has the bytes
+  pub turn_part : {w : ℕ} → w ≡ q.width → (d : List ℕ) → length d ≡ run_bytes r g → k * w + c * w ≤ length d
+  turn_part {w} ew d full =
+      let some : (k + c) * item_bytes r ≤ length d = omega (arith, full, mul-le-mul_right (item_bytes r) a.within) in
+      rw (ew, ready-width r f₀ g q h.ready) (omega (arith, some, add-mul k c (item_bytes r)))
 
   module _ (d : List ℕ) {f : List ℕ} (full : length d ≡ run_bytes r g) (so_far : f ≡ up k (sample_to r g i j d) f₀) where
     pub turn_still : Writable r f g q
     turn_still =
-        writable_kept r f₀ g q h f (subst (Kept r f₀) (sym so_far) (run_kept r f₀ g q h i j at.0 at.1 d full f₀ (kept_refl r f₀) k (omega (arith, turn_here))))
+        writable_kept r f₀ g q h f (subst (Kept r f₀) (sym so_far) (run_kept r f₀ g q h i j at.0 at.1 d full f₀ (kept_refl r f₀) k (omega (arith, along_in a))))
 
-    module _ {c : ℕ} (ec : c ≡ min (side_of r.description 2 - (start_of g 2 + k) % side_of r.description 2) (q.count2 - k)) {o m w : ℕ}
-        (eo : o ≡ offset_in (kind_in r f (brick_of r (place g i j k)))) (em : m ≡ item_no r (place g i j k)) (ew : w ≡ q.width) where
+    module _ {o m w : ℕ} (eo : o ≡ offset_in (kind_in r f (brick_of r (place g i j k)))) (em : m ≡ item_no r (place g i j k)) (ew : w ≡ q.width) where
       turn_width : w ≡ item_bytes r
       turn_width = ew ∙ ready-width r f₀ g q h.ready
 
       pub turn_fits : o + m * w + length (peek d (k * w) (k * w + c * w - k * w)) ≤ length f
-      turn_fits = turn-fits r f g q turn_still i j k q.count2 c at.0 at.1 turn_here (turn_step ec) d full (turn_within ec) o m w eo em turn_width
+      turn_fits = turn-fits r f g q turn_still i j k c at.0 at.1 a d full o m w eo em turn_width
 
       pub turn_more : {f' : List ℕ} → f' ≡ put f (o + m * w) (peek d (k * w) (k * w + c * w - k * w)) → f' ≡ up (k + c) (sample_to r g i j d) f₀
-      turn_more {f'} e =
-          run_more r g i j d k c f₀ f f' so_far (e ∙ turn-put r f g q turn_still i j k q.count2 c at.0 at.1 turn_here (turn_step ec) d full (turn_within ec) o m w eo em turn_width)
+      turn_more {f'} e = run_more r g i j d k c f₀ f f' so_far (e ∙ turn-put r f g q turn_still i j k c at.0 at.1 a d full o m w eo em turn_width)
 
 -- ---- a loop over the parts of w bytes of d, each of which s writes: t came, rest has what is left, and the headers are those of the start
 

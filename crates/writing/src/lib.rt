@@ -15,6 +15,7 @@ use cube::Region;
 use endian::copy;
 use record::{Record, Refusal};
 use regions::write_verdict;
+use runs::parts::Parts;
 use runs::site::Site;
 use runs::{index, lattice_of};
 
@@ -38,24 +39,21 @@ fn write_items(file: &mut [u8], input: &[u8], offset: u64, item: usize, w: usize
     copy(&mut file[p..e], input);
 }
 
-// One vertical run, cut at the bricks' faces. A turn goes as far as the brick, which no range says.
+// One vertical run, cut at the bricks' faces.
 fn write_run(file: &mut [u8], run: &[u8], site: &Site, i: usize, j: usize)
     requires writable { IsWritable site.now file.old }
     requires inside { (i < run_of site.now.region.now 0) × (j < run_of site.now.region.now 1) }
     requires bytes { length run.now ≡ run_bytes site.now.record.now site.now.region.now }
     ensures { file.new ≡ run_to site.now.record.now site.now.region.now i j run.now file.old }
 {
-    let w = index(site.lattice.width);
-    let n = site.lattice.count2;
-    let mut k = 0;
-    while k < n {
-        let offset = offset_on(file, site, i, j, k);
-        let item = site.item(i, j, k);
-        let c = site.down(k, n - k);
-        let a = k * w;
-        let e = a + c * w;
+    let q = site.lattice;
+    let w = index(q.width);
+    for down in Parts::new(q.start2, q.side2, q.count2) {
+        let offset = offset_on(file, site, i, j, down.at);
+        let item = site.item(i, j, down.at);
+        let a = down.at * w;
+        let e = a + down.n * w;
         write_items(file, &run[a..e], offset, item, w);
-        k += c;
     }
 }
 

@@ -7,12 +7,12 @@ use Rattle.runs.proofs.Sites.{asks_on, turn_on, end_on}
 use Rattle.runs.proofs.walk.read_boxes.Goals as goal
 
 pub new-down-items-requires : goal.new-down-items-requires
-new-down-items-requires g c = asks_on c.args.v.now 2 (omega arith)
+new-down-items-requires g c = asks_on c.args.v.now.ready 2 (omega arith) c.args.v.now.some
 
 pub read_box-requires-clause-in_brick : goal.read_box-requires-clause-in_brick
 read_box-requires-clause-in_brick g c =
     let x = c.in-Some.ensures.steps.3 in
-    record { inline = c.requires.through.0; crossline = c.requires.through.1; vertical = turn_on c.args.v.now 2 _ (omega arith) c.loop-down.invariant.1 x.0 x.1 x.2 }
+    record { inline = c.requires.through.0; crossline = c.requires.through.1; vertical = turn_on c.args.v.now.ready 2 _ (omega arith) c.loop-down.invariant.1 x.0 x.1 x.2 }
 
 pub loop-down-preserved : goal.loop-down-preserved
 loop-down-preserved g c =
@@ -23,5 +23,5 @@ loop-down-preserved g c =
 
 pub returns : goal.returns
 returns g c =
-    let e : c.loop-down.down-iterator.at ≡ run_of c.args.v.now.site.region.now 2 = end_on c.args.v.now 2 (omega arith) c.loop-down.invariant.1 c.in-None.ensures.steps.3 in
+    let e : c.loop-down.down-iterator.at ≡ run_of c.args.v.now.site.region.now 2 = end_on c.args.v.now.ready 2 (omega arith) c.loop-down.invariant.1 c.in-None.ensures.steps.3 in
     rw e at c.loop-down.invariant.0

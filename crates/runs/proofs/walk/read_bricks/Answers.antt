@@ -7,12 +7,12 @@ use Rattle.runs.proofs.Sites.{asks_on, turn_on, end_on}
 use Rattle.runs.proofs.walk.read_bricks.Goals as goal
 
 pub new-along-items-requires : goal.new-along-items-requires
-new-along-items-requires g c = asks_on c.args.v.now 0 (omega arith)
+new-along-items-requires g c = asks_on c.args.v.now.ready 0 (omega arith) c.args.v.now.some
 
 pub read_columns-requires-clause-through : goal.read_columns-requires-clause-through
 read_columns-requires-clause-through g c =
     let x = c.in-Some.ensures.steps.3 in
-    turn_on c.args.v.now 0 _ (omega arith) c.loop-along.invariant.1 x.0 x.1 x.2
+    turn_on c.args.v.now.ready 0 _ (omega arith) c.loop-along.invariant.1 x.0 x.1 x.2
 
 pub loop-along-preserved : goal.loop-along-preserved
 loop-along-preserved g c =
@@ -23,5 +23,5 @@ loop-along-preserved g c =
 
 pub returns : goal.returns
 returns g c =
-    let e : c.loop-along.along-iterator.at ≡ run_of c.args.v.now.site.region.now 0 = end_on c.args.v.now 0 (omega arith) c.loop-along.invariant.1 c.in-None.ensures.steps.3 in
+    let e : c.loop-along.along-iterator.at ≡ run_of c.args.v.now.site.region.now 0 = end_on c.args.v.now.ready 0 (omega arith) c.loop-along.invariant.1 c.in-None.ensures.steps.3 in
     boxed_all c.requires.room (rw e at c.loop-along.invariant.0)

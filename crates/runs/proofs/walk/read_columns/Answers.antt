@@ -7,12 +7,12 @@ use Rattle.runs.proofs.Sites.{asks_on, turn_on, end_on}
 use Rattle.runs.proofs.walk.read_columns.Goals as goal
 
 pub new-across-items-requires : goal.new-across-items-requires
-new-across-items-requires g c = asks_on c.args.v.now 1 (omega arith)
+new-across-items-requires g c = asks_on c.args.v.now.ready 1 (omega arith) c.args.v.now.some
 
 pub read_column-requires-clause-through : goal.read_column-requires-clause-through
 read_column-requires-clause-through g c =
     let x = c.in-Some.ensures.steps.3 in
-    (c.requires.through, turn_on c.args.v.now 1 _ (omega arith) c.loop-across.invariant.1 x.0 x.1 x.2)
+    (c.requires.through, turn_on c.args.v.now.ready 1 _ (omega arith) c.loop-across.invariant.1 x.0 x.1 x.2)
 
 pub loop-across-preserved : goal.loop-across-preserved
 loop-across-preserved g c =
@@ -23,5 +23,5 @@ loop-across-preserved g c =
 
 pub returns : goal.returns
 returns g c =
-    let e : c.loop-across.across-iterator.at ≡ run_of c.args.v.now.site.region.now 1 = end_on c.args.v.now 1 (omega arith) c.loop-across.invariant.1 c.in-None.ensures.steps.3 in
+    let e : c.loop-across.across-iterator.at ≡ run_of c.args.v.now.site.region.now 1 = end_on c.args.v.now.ready 1 (omega arith) c.loop-across.invariant.1 c.in-None.ensures.steps.3 in
     rw e at c.loop-across.invariant.0
