@@ -152,13 +152,13 @@ impl<'a> Checked<'a> {
     {
         let entries = Entries::of(self.file, self.r);
         let b = self.block();
-        if let Some(entry) = search(b, &|entry| entries.is_out_of_range(entry as usize)) {
+        if let Some(entry) = search(b, &move |entry| entries.is_out_of_range(entry as usize)) {
             return Err(Refusal::Range(entry as u32));
         }
         if !write {
             return Ok(());
         }
-        match search(b, &|entry| !is_stored(entries.kind(entry as usize))) {
+        match search(b, &move |entry| !is_stored(entries.kind(entry as usize))) {
             Some(entry) => Err(Refusal::NotStored(entry as u32)),
             None => Ok(()),
         }
