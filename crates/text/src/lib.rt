@@ -8,7 +8,7 @@ ghost use Rattle.text.specs.Text.{decimal, signed_decimal};
 // Where bytes go: a lent slice, and the place after what is written. Each call goes on where the one before it ended, and leaves
 // out what does not fit, so whoever makes a writer looks at its place once, at the end. It is no `fmt::Write`: `write!` promises its
 // text only where it answers Ok, and nothing promises that it does, while a listing is promised of every file. Nor does it take the kit's `itoa`,
-// which needs no heap either: that is one library more for the four lines of `push_decimal`, whose digits the edits `digit` and `base` turn.
+// which needs no heap either: that is one library more for the few lines of `push_decimal`, whose digits the edits `digit` and `base` turn.
 #[derive(Drop)]
 pub struct Writer<'a> {
     out: &'a mut [u8],
