@@ -88,12 +88,12 @@ pub fn lattice_of(r: Record, g: Region) -> Lattice
     }
 }
 
-// What a quotient by a brick's side leaves.
+// What a quotient by a brick's side leaves: the bits below the side's.
 fn beyond(x: usize, side: usize) -> usize
     requires { side_ok side ≡ true }
     ensures { result ≡ x % side }
 {
-    x - over(x, side) * side
+    x & (side - 1)
 }
 
 // How many of the next n samples in a direction lie in the brick of the first, which is `at` past the region's start.

@@ -1,0 +1,6 @@
+use Rattle.std.proofs.lemmas.Nat.{and_mask}
+use Rattle.checks.proofs.Described.{side-exponent}
+use Rattle.runs.proofs.beyond.Goals as goal
+
+pub returns : goal.returns
+returns c = let p = side-exponent c.args.side c.requires in rw p.power (and_mask c.args.x p.exponent)
