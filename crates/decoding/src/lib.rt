@@ -36,9 +36,9 @@ fn decode_scaled<const WIDTH: usize, const HALF: u32>(
     requires { Integers WIDTH HALF × (length bytes.now ≡ length out.old * WIDTH) }
     ensures { out.new ≡ cat (length out.old) (λ n. scaled_of HALF min max (le WIDTH bytes.now (n * WIDTH)) ∷ []) }
 {
-    for (n, to) in out.iter_mut().enumerate() {
+    for n in 0..out.len() {
         let raw = item(bytes, n * WIDTH, WIDTH);
-        *to = Item { raw, half: HALF }.scaled(min, max);
+        out[n] = Item { raw, half: HALF }.scaled(min, max);
     }
 }
 
@@ -48,8 +48,8 @@ fn decode_widened<const WIDTH: usize>(out: &mut [f64], bytes: &[u8])
     requires { Width WIDTH × (length bytes.now ≡ length out.old * WIDTH) }
     ensures { out.new ≡ cat (length out.old) (λ n. widened_of (le WIDTH bytes.now (n * WIDTH)) ∷ []) }
 {
-    for (n, to) in out.iter_mut().enumerate() {
-        *to = widen_bits(item(bytes, n * WIDTH, WIDTH));
+    for n in 0..out.len() {
+        out[n] = widen_bits(item(bytes, n * WIDTH, WIDTH));
     }
 }
 
