@@ -1,28 +1,25 @@
 -- For the private functions of regions alone: the entries that a region touches as a block of entry numbers, and the search over them for
 -- checks 12 and 19.
-use Rattle.std.specs.Prelude.{Bool, true, cond, List, [], ◌∷◌, ◌≡◌, ℕ, suc, ◌+◌, ◌-◌, ◌*◌, ◌/◌, ◌≤◌, ◌<◌}
+use Rattle.std.specs.Prelude.{Bool, true, not, cond, List, [], ◌∷◌, ◌≡◌, ℕ, suc, ◌+◌, ◌-◌, ◌*◌, ◌/◌, ◌≤◌, ◌<◌}
 use Rattle.endian.specs.Loops.{cat}
-use Rattle.geometry.specs.Limits.{brick_limit}
 use Rattle.record.specs.Record.{side_of, bricks_along}
 use Rattle.record.specs.declared.Record.{Record}
 use Rattle.record.specs.Answers.{Verdict, Taken}
 use Rattle.checks.specs.Fits.{record_fits}
+use Rattle.table.specs.Entries.{kind_at, outside_at}
+use Rattle.table.specs.declared.Table.{Table}
 use Rattle.cube.specs.declared.Region.{Region}
 use Rattle.cube.specs.Places.{entry_in}
-use Rattle.cube.specs.Regions.{start_of, run_of, in_extent, touches, unless_touched, not_stored}
+use Rattle.cube.specs.Regions.{start_of, run_of, in_extent, touches, unless_touched, is_stored, not_stored}
 use Rattle.regions.specs.declared.Along.{Along}
 use Rattle.regions.specs.declared.Block.{Block}
 use Rattle.record.specs.declared.Refusal.TheVariants as refusal
 
--- ---- one entry, by the calls of a closure: what they ask, and what they answer
+-- ---- one entry
 
--- each entry below n may be judged
-abbrev pub Judged : (ℕ → Type 0) → ℕ → Type 0
-Judged pre n = (n ≤ brick_limit) × ((e : ℕ) → e < n → pre e)
-
--- of each entry, the answer is what the test says
-abbrev pub Computes : (ℕ → Bool → Type 0) → (ℕ → Bool) → Type 0
-Computes post test = (e : ℕ) (answer : Bool) → post e answer → answer ≡ test e
+-- entry e fails: check 19 wants a stored brick, check 12 one that is not out of range
+unfoldable pub fails : Bool → Table → List ℕ → ℕ → Bool
+fails stored t f e = cond stored (not (is_stored (kind_at t f e))) (outside_at t f e)
 
 -- ---- blocks of entries
 

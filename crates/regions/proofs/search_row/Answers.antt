@@ -1,13 +1,16 @@
-use Rattle.std.proofs.Common.{◌≡◌, true, false, rules, tests, of_calls, arith}
-use Rattle.std.proofs.lemmas.Iterator.{serves_from_Range, first_from_Range}
-use Rattle.regions.proofs.Finds.{row_first}
+use Rattle.regions.proofs.Finds.{row_hit, row_more, find_start}
+use native.Mathlib.Omega.{arith}
+use mathlib.Core.Path.{sym, ◌∙◌}
+use Rattle.regions.specs.Search.{fails}
 use Rattle.regions.proofs.search_row.Goals as goal
 
-pub find-requires-clause-callable : goal.find-requires-clause-callable
-find-requires-clause-callable g c =
-    serves_from_Range (λ x q k. search (rules, tests)) (λ x a b y e. c.requires.1 _ (omega (arith, b, e)))
+pub loop-x-init : goal.loop-x-init
+loop-x-init c = (omega arith, find_start _ _)
 
-pub returns : goal.returns
-returns g c test says =
-    row_first test c.args.from c.args.count c.find.result
-    (first_from_Range _ _ _ _ (λ k. test k ≡ true) (λ k. test k ≡ false) c.find.ensures.ran (λ x q k. search (says, of_calls, rules, tests)) (λ x q k. search (says, of_calls, rules, tests)))
+pub returns-then-entry_fails : goal.returns-then-entry_fails
+returns-then-entry_fails c =
+    row_hit (fails c.args.stored c.args.entries.now.table c.args.entries.now.file.now) c.args.from c.args.count c.loop-x.x (omega arith) c.loop-x.invariant.1 (sym c.entry_fails.ensures ∙ c.if-entry_fails.true)
+
+pub loop-x-preserved : goal.loop-x-preserved
+loop-x-preserved c =
+    (omega arith, row_more _ _ c.loop-x.x c.loop-x.invariant.1 (sym c.entry_fails.ensures ∙ c.if-entry_fails.false))
