@@ -27,7 +27,7 @@ fn item(bytes: &[u8], at: usize, width: usize) -> u32
 
 // Items of an integer type, scaled to the coding range: HALF is 128 for int8 and 32768 for int16. That there are as many bytes as items stands at
 // each function here: they are two slices of the caller's. Its loop and the next go by number: by `iter_mut().enumerate()` they prove as well, and slices
-// of small bricks took half as long again.
+// of small bricks took a third more instructions.
 fn decode_scaled<const WIDTH: usize, const HALF: u32>(
     out: &mut [f64],
     bytes: &[u8],
