@@ -18,7 +18,7 @@ ROWS = [
     ('1e numbers for kinds of calls', SRC, r'^\s*which: u32|match which \{|match field \{|match part \{'),
     ('2a reading and sampling, function by function', 'crates/{reading,sampling}/src/*.rt', r'^\s*(pub )?fn (read_rows|read_plane|read_planes|read_inlines|read_box|read_boxes|read_column|read_columns|read_bricks)\b'),
     ('2b the same function in two crates or for two types', SRC, r'^\s*(pub )?fn (read_full|argument|wide|within|floats_within|least|with_part|with_float|with_range|u16_at|u32_at|u64_at|join2|join4|join_halves|push_u32|push_u64|decode_scaled|decode_widened|float_of|widen_bits)\b'),
-    ('2c a width that is a number in each call', SRC, r'^\s*_? ?=?>? ?[124_] => (fill|gather|u8_at|u16_at|u32_at)\w*\('),
+    ('2c a width that is a number in each call', SRC, r'^\s*_? ?=?>? ?[124_] => (u32::from\()?(fill|gather|u8_at|u16_at|u32_at)\w*\('),
     ('3 loops that count by hand', SRC, r'^\s*(while|loop)\b'),
     ('4a conversions by hand', SRC, r'^\s*(pub )?fn (wide|index|done|located|found|known|opened|numbers|fill_of|distance)\('),
     ('4b printing by hand', SRC, r'^\s*(pub )?fn say_\w+\('),
