@@ -16,7 +16,8 @@ use floats::{Item, widen_bits};
 use record::{Coding, Record, Refusal, coding_of};
 use table::{Entries, Kind, table_in};
 
-// What a brick is. A constant is the storage value, unscaled; a stored brick has its offset in the file.
+// What a brick is. A constant is the storage value, unscaled; a stored brick has its offset in the file. The paper asks for this enum
+// (docs/DECISIONS.md, 10); `table::Kind` is the table's own, with the constant's bytes as a number, and one for both would be generic in that alone.
 #[derive(Clone, Copy)]
 pub enum Brick {
     Missing,
@@ -24,8 +25,8 @@ pub enum Brick {
     Stored(u64),
 }
 
-// Checks 14, 16 and 12. File, record and entry go from call to check as a call is lent them, in any state: a struct of the three would say nothing of
-// them, and be made anew by each call.
+// Checks 14, 16 and 12. File, record and entry go on as they are lent, also after the checks: a struct of what passed them would be made by two calls,
+// and save each the one line in which it asks `Entries` again.
 fn check_entry(file: &[u8], r: Record, entry: u32) -> Result<(), Refusal>
     ensures { result ≡ kind_verdict r file.now entry }
 {

@@ -1,6 +1,7 @@
 // Checks 2 to 9, 11 and 14 of FORMAT 9.2. A test joins its parts by `|` and `&`, plain operations on bools, so
 // that it is its definition as it stands. A check answers a bool and no Result, also where it is public: it is a question that its definition answers by a
-// Bool, and asking cannot fail. The refusal is named where the checks are put in order, once for each row of the table.
+// Bool, and what could not fail still can't. Each caller names the refusal, so that the order of its checks reads as the paper's; a Result beside the
+// bools would take two lines from each of a few calls, and be two more functions to know.
 #![tactic(auto)]
 
 ghost use Rattle.std.specs.Prelude.{◌≡◌, not, ◌&&◌, ◌≤◌, ◌<◌, length};

@@ -99,8 +99,9 @@ fn copy_blocks(out: &mut [u8], src: &[u8], size: usize)
 }
 
 // The copying leaf. Each size is a literal, so that the loop is compiled for it: a run below 64 bytes is two blocks at most. The library's
-// copy_from_slice calls memcpy: with it raw reads of sections took 17 to 20 % longer (docs/PERFORMANCE.md, after the pass over the design), beyond the bar of
-// 1.1 of plain Rust for sections. With the size as a const parameter, and a piece as an array of it, such sections took up to a third longer.
+// copy_from_slice calls memcpy: with it raw reads of sections took 17 to 20 % longer (docs/PERFORMANCE.md, after the pass over the design), and crossline
+// sections of float32, at 0.94 of plain Rust, would miss the goal of 1.1. With the size as a const parameter, and a piece as an array of it, such sections
+// took up to a third longer.
 pub fn copy(out: &mut [u8], src: &[u8])
     requires { length src.now ≡ length out.old }
     ensures { out.new ≡ src.now }

@@ -59,6 +59,7 @@ pub fn same_bits(x: f32, bits: u32) -> bool
     !x.is_nan() && x.to_bits() == bits
 }
 
+// `f64::from` by the rules' name, under which it is promised.
 pub fn widened(x: f32) -> f64
     ensures { result ≡ x }
 {
@@ -82,7 +83,7 @@ pub struct Item {
 }
 
 impl Item {
-    // The lowest number of its type.
+    // The lowest number of its type. `i32` has no From of 32 bits without a sign, so these are casts.
     fn lowest(self) -> i32
         ensures { result ≡ neg_ℤ (pos self.half) }
     {
@@ -111,8 +112,8 @@ impl Item {
         f64::from(self.signed())
     }
 
-    // Its signed number, scaled to the coding range. The ends are two arguments, as the float rules' definitions and the edit `scaled_from_highest` have them;
-    // `sampling` holds them together because it hands them on through its loops.
+    // Its signed number, scaled to the coding range. The ends are two arguments, as the float rules' definitions have them; `sampling` holds them together
+    // because its reads hand them on.
     pub fn scaled(self, min: f64, max: f64) -> f64
         ensures { result ≡ scaled_of self.half min max self.raw }
     {

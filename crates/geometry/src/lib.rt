@@ -80,7 +80,7 @@ fn ceil_shift(n: u64, k: u64) -> u64
 }
 
 // A level's extent in samples, in a direction of this size: size / 2^l, rounded up. That the level is at most the cap stands at each function that
-// shifts by it, since loops over all levels up to the cap call them: a type of a level would only be built and taken apart there at each step.
+// shifts by it: loops over all levels up to the cap call the others, where a type of a level would only be built and taken apart at each step.
 pub fn extent_at(size: u32, l: u64) -> u64
     requires { (1 ≤ size) × (l ≤ level_cap) }
     ensures { result ≡ extent size l }
@@ -90,7 +90,7 @@ pub fn extent_at(size: u32, l: u64) -> u64
 
 // A level's bricks in a direction of this size and brick side: size / (side x 2^l), rounded up. A side is a power of two, so this is
 // the extent's sum and shift, with the side's zeros added to the shift. That it is also the extent / side, rounded up, and the halving
-// from level to level, says `halving_rule`.
+// from level to level, says `halving_rule`. It is no method of `Volume`, which would take a direction's number and ask that there is one.
 fn count_at(size: u32, side: u32, l: u64) -> u64
     requires { (1 ≤ size) × Power side × (l ≤ level_cap) }
     ensures { result ≡ count_at size side l }
@@ -179,7 +179,8 @@ pub fn brick_bytes(s0: u64, s1: u64, s2: u64, w: u64) -> u64
     s0 * s1 * s2 * w
 }
 
-// Where the brick table starts: after the text, the histogram and the alpha table. A cast, as `u64` has no From of a usize.
+// Where the brick table starts: after the text, the histogram and the alpha table. A cast, as `u64` has no From of a usize. A text's length is a number of
+// a record or of a call, which check 9 judges there: that it has passed is asked of the number, here and wherever it is counted with.
 pub fn table_start(text: u64, alpha: u64) -> u64
     requires { (text ≤ longest_text) × (alpha ≤ brick_room) }
     ensures { result ≡ table_start text alpha }

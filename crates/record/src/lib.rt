@@ -98,7 +98,7 @@ impl Refusal {
     }
 }
 
-// What a type number says: the item's width in bytes and its decode rule.
+// What a type number says: the item's width in bytes and its decode rule, as the paper asks of this form (docs/DECISIONS.md, "Forms").
 #[derive(Clone, Copy)]
 pub enum Coding {
     // Signed integers from -half to half - 1, scaled to the coding range.
@@ -198,7 +198,8 @@ fn two_at(file: &[u8], at: usize) -> [u32; 2]
     [u32_at(file, at), u32_at(file, at + 4)]
 }
 
-// An id, from its piecewise little-endian order to the canonical one.
+// An id, from its piecewise little-endian order to the canonical one. `making` writes the same order back: each is the list that its definition is, of a
+// file's bytes here and of an id's there, and one for both would be proved equal to the two.
 fn id_at(file: &[u8], at: usize) -> [u8; 16]
     requires { at + 16 ≤ length file.now }
     ensures { result ≡ id_at file.now at }
@@ -275,8 +276,8 @@ pub fn grid_of(d: Description) -> Grid
     }
 }
 
-// Levels, bricks and alpha tiles. That sizes and sides keep the limits stands at each function that counts with them, since a description is
-// lent before checks 4 and 6 have judged it.
+// Levels, bricks and alpha tiles. That sizes and sides keep the limits stands at each public function that counts with them, which documents and edits
+// name with a description alone; `Volume`, made here, has it as its ghost field for all that is counted below.
 pub fn shape_in(d: Description) -> Shape
     requires { Sized d }
     ensures { result ≡ shape_of (count_of d 0) (count_of d 1) (count_of d 2) }

@@ -11,7 +11,8 @@ use checks::{check11, check14_with};
 use geometry::TEXT_START;
 use record::{Record, Refusal};
 
-// A walker over the strings of a text section: the section, and the place where the next string starts.
+// A walker over the strings of a text section: the section, and the place where the next string starts. It is the struct that the paper asks for
+// (docs/DECISIONS.md, "Forms"), and no Iterator, since hosts are told of its calls by name.
 #[derive(Clone, Copy)]
 pub struct Strings<'a> {
     pub text: &'a [u8],
@@ -26,8 +27,8 @@ pub struct Item {
     pub next: usize,
 }
 
-// The text section of a cube, once checks 14 and 11 have passed. Opening makes check 11 of a record that it has just worked out, after check 10, and
-// this one after check 14 of a record that is lent: the two lines between are all that they share.
+// The text section of a cube, once checks 14 and 11 have passed. Opening cuts the same slice for check 11, after check 10 of a record that it has just
+// worked out, and this one after check 14 of a record that is lent: what they share is four lines, and a function of them would ask for a bound of each.
 fn text_of<'a>(file: &'a [u8], r: Record) -> Result<&'a [u8], Refusal>
     ensures verdict { verdict_of result ≡ strings_verdict r file.now }
     ensures text { IfOk result (λ text. text.now ≡ text_in r file.now) }
@@ -70,7 +71,7 @@ fn turn_at(text: &[u8], at: usize) -> Option<Item>
     })
 }
 
-// The string at a place, without its zero; an empty part where there is none.
+// The string at a place, without its zero; an empty part where there is none, as its definition says and as hosts are told of `string`.
 fn part_at<'a>(text: &'a [u8], at: usize) -> &'a [u8]
     ensures { result.now ≡ string_at text.now at }
 {

@@ -259,7 +259,8 @@ pub fn out_of_range(file: &[u8], t: Table, entry: usize) -> bool
     Entries { file, table: t }.is_out_of_range(entry)
 }
 
-// Stored bricks at two offsets have a byte in common.
+// Stored bricks at two offsets have a byte in common. These and the scan go by the length of a brick and the start of a window, two numbers: a struct of
+// both and of the cells would be lent to be changed for each of the 16384 cells that the scan fills, and say nothing of them.
 fn near(brick: u64, left: u64, right: u64) -> bool
     ensures { result ≡ overlap brick (Stored left) (Stored right) }
 {
