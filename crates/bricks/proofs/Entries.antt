@@ -1,7 +1,7 @@
 -- The entry of a record that passes check 14: where it stands, its verdict, and what its kind owes. Assumes nothing.
 use mathlib.Core.Bool.{Bool, true, false, cond}
 use mathlib.Core.List.{List}
-use mathlib.Core.Path.{◌≡◌, refl}
+use mathlib.Core.Path.{◌≡◌, refl, sym, ◌∙◌}
 use Prim.Native.Nat.{ℕ, ◌+◌, ◌^◌, ◌≤◌, ◌<◌}
 use native.Mathlib.Omega.{arith}
 use lib.ListN.{length}
@@ -14,10 +14,11 @@ use Rattle.record.specs.declared.Refusal.{Refusal}
 use Rattle.record.specs.Answers.{Verdict, Taken, refused}
 use Rattle.checks.specs.Fits.{breaks14_with}
 use Rattle.checks.proofs.Records.{Fit, fits-is, with_fit}
+use Rattle.table.specs.declared.Kind.{Kind}
 use Rattle.table.specs.declared.Kind.TheVariants.{Stored}
 use Rattle.table.specs.declared.Table.{Table}
-use Rattle.table.specs.Entries.{table_in, kind_in, breaks12, Derived, Readable}
-use Rattle.table.proofs.Tables.{fits_derived, count-is, readable, names_narrow, stored-inside}
+use Rattle.table.specs.Entries.{table_in, kind_at, kind_in, breaks12, Derived, Readable}
+use Rattle.table.proofs.Tables.{fits_derived, count-is, brick-is, kind_is, readable, names_narrow, stored-inside}
 use Rattle.cube.specs.Places.{item_bytes}
 use Rattle.bricks.specs.Bricks.{kind_verdict}
 use Rattle.std.specs.Prelude.{Ok}
@@ -95,3 +96,11 @@ module _ (r : Record) (f : List ℕ) (e : ℕ) (s : Seen r f e) where
 -- a stored brick lies in the file
 pub stored_in : (r : Record) (f : List ℕ) (e o : ℕ) → Seen r f e → kind_in r f e ≡ Stored o → o + brick_bytes_of r.description ≤ length f
 stored_in r f e o s k = (stored-inside r f e s.in_range o k).1
+
+-- what the entries that are made of a record and a file answer: an entry's kind, and where a stored brick of it ends
+module _ (r : Record) (f : List ℕ) (e : ℕ) {t : Table} {f' : List ℕ} {k : Kind} (et : t ≡ table_in r) (ef : f' ≡ f) (ek : k ≡ kind_at t f' e) where
+  pub made_kind : k ≡ kind_in r f e
+  made_kind = rw ef at ek ∙ kind_is r t et f e
+
+  pub made_end : {o : ℕ} → Seen r f e → k ≡ Stored o → o + t.brick ≤ length f
+  made_end {o} s i = rw (brick-is r t et) (stored_in r f e o s (sym made_kind ∙ i))

@@ -135,6 +135,10 @@ pub record BlockParts (r : Record) (g : Region) (v : Level) (x y z : Along) : Ty
   pub crossline : y ≡ along_of (side_of r.description 1) (start_of g 1) (run_of g 1)
   pub vertical : z ≡ along_of (side_of r.description 2) (start_of g 2) (run_of g 2)
 
+pub block_parts : {r : Record} {g : Region} {v : Level} {x y z : Along} → v ≡ level_in r.description g.level → x ≡ along_of (side_of r.description 0) (start_of g 0) (run_of g 0)
+    → y ≡ along_of (side_of r.description 1) (start_of g 1) (run_of g 1) → z ≡ along_of (side_of r.description 2) (start_of g 2) (run_of g 2) → BlockParts r g v x y z
+block_parts ev ex ey ez = record { level = ev; inline = ex; crossline = ey; vertical = ez }
+
 module _ {r : Record} {g : Region} {v : Level} {x y z : Along} (e : BlockParts r g v x y z) where
   first_made : entry_at v x.first y.first z.first ≡ (block_of r g).first
   unfolding block_of entry_in

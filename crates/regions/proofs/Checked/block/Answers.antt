@@ -1,7 +1,7 @@
 use native.Mathlib.Omega.{arith}
 use Rattle.checks.proofs.Described.{described_sides}
 use Rattle.runs.proofs.Lattices.{level_asks}
-use Rattle.regions.proofs.Blocks.{fit_of, within_of, BlockParts, first_ok, layer_small, block_made}
+use Rattle.regions.proofs.Blocks.{fit_of, within_of, block_parts, first_ok, layer_small, block_made}
 use Rattle.regions.proofs.Checked.block.Goals as goal
 
 pub level_in-v-requires : goal.level_in-v-requires
@@ -22,30 +22,15 @@ bricks_along-z-requires c =
 
 pub entry_at-requires : goal.entry_at-requires
 entry_at-requires c =
-    let parts : BlockParts c.args.self.now.r c.args.self.now.g c.level_in-v.result c.bricks_along-x.result c.bricks_along-y.result c.bricks_along-z.result = record {
-      level = c.level_in-v.ensures;
-      inline = c.bricks_along-x.ensures;
-      crossline = c.bricks_along-y.ensures;
-      vertical = c.bricks_along-z.ensures;
-    } in
+    let parts = block_parts c.level_in-v.ensures c.bricks_along-x.ensures c.bricks_along-y.ensures c.bricks_along-z.ensures in
     first_ok parts c.args.self.now.passed
 
 pub overflow_mul-result : goal.overflow_mul-result
 overflow_mul-result c =
-    let parts : BlockParts c.args.self.now.r c.args.self.now.g c.level_in-v.result c.bricks_along-x.result c.bricks_along-y.result c.bricks_along-z.result = record {
-      level = c.level_in-v.ensures;
-      inline = c.bricks_along-x.ensures;
-      crossline = c.bricks_along-y.ensures;
-      vertical = c.bricks_along-z.ensures;
-    } in
+    let parts = block_parts c.level_in-v.ensures c.bricks_along-x.ensures c.bricks_along-y.ensures c.bricks_along-z.ensures in
     record { fits = omega (arith, layer_small parts c.args.self.now.passed) }
 
 pub returns : goal.returns
 returns c =
-    let parts : BlockParts c.args.self.now.r c.args.self.now.g c.level_in-v.result c.bricks_along-x.result c.bricks_along-y.result c.bricks_along-z.result = record {
-      level = c.level_in-v.ensures;
-      inline = c.bricks_along-x.ensures;
-      crossline = c.bricks_along-y.ensures;
-      vertical = c.bricks_along-z.ensures;
-    } in
+    let parts = block_parts c.level_in-v.ensures c.bricks_along-x.ensures c.bricks_along-y.ensures c.bricks_along-z.ensures in
     block_made parts _ c.entry_at.ensures
