@@ -26,8 +26,7 @@ fn item(bytes: &[u8], at: usize, width: usize) -> u32
 }
 
 // Items of an integer type, scaled to the coding range: HALF is 128 for int8 and 32768 for int16. That there are as many bytes as items stands at
-// each function here: they are two slices of the caller's. Its loop and the next go by number: by `iter_mut().enumerate()` they prove as well, and slices
-// of small bricks took a third more instructions.
+// each function here: they are two slices of the caller's.
 fn decode_scaled<const WIDTH: usize, const HALF: u32>(
     out: &mut [f64],
     bytes: &[u8],
@@ -37,20 +36,21 @@ fn decode_scaled<const WIDTH: usize, const HALF: u32>(
     requires { Integers WIDTH HALF × (length bytes.now ≡ length out.old * WIDTH) }
     ensures { out.new ≡ cat (length out.old) (λ n. scaled_of HALF min max (le WIDTH bytes.now (n * WIDTH)) ∷ []) }
 {
-    for n in 0..out.len() {
+    for (n, to) in out.iter_mut().enumerate() {
         let raw = item(bytes, n * WIDTH, WIDTH);
-        out[n] = Item { raw, half: HALF }.scaled(min, max);
+        *to = Item { raw, half: HALF }.scaled(min, max);
     }
 }
 
-// Items of the float type, widened. A loop of its own: one over a closure for the item would promise only what the closure's contract says of
-// each float, and not the float itself. It is called with 4 alone: its width is a parameter, as above, since the edit `width-of-int16` passes another.
+// Items of the float type, widened. A loop of its own: one over a closure for the item would promise only what the closure's contract says of each float,
+// and a trait with the float as a ghost member, for two impls of one line, would be longer than both. It is called with 4 alone: its width is a parameter,
+// as above, since the edit `width-of-int16` passes another.
 fn decode_widened<const WIDTH: usize>(out: &mut [f64], bytes: &[u8])
     requires { Width WIDTH × (length bytes.now ≡ length out.old * WIDTH) }
     ensures { out.new ≡ cat (length out.old) (λ n. widened_of (le WIDTH bytes.now (n * WIDTH)) ∷ []) }
 {
-    for n in 0..out.len() {
-        out[n] = widen_bits(item(bytes, n * WIDTH, WIDTH));
+    for (n, to) in out.iter_mut().enumerate() {
+        *to = widen_bits(item(bytes, n * WIDTH, WIDTH));
     }
 }
 
@@ -73,8 +73,8 @@ pub fn decode(out: &mut [f64], bytes: &[u8], datatype: u8, min: f64, max: f64)
     }
 }
 
-// One sample, from the unsigned number of its bytes. The ends of the coding range are two arguments here and above, as the clauses name them: a public
-// struct of both would change these contracts. `sampling`, which holds them as one, takes them apart at each call.
+// One sample, from the unsigned number of its bytes. The ends of the coding range are two arguments here and above, as the definitions have them: a struct
+// of both would be taken apart by each clause. `sampling`, which holds them as one, takes them apart at each call.
 // That the number is one of so many bytes stays a clause, here and wherever one is asked for: number and width meet only in a call, the number from
 // the table's word and the width from the record, and `Item`, the type of such a pair, is of integer types only.
 // bricks' `constant_value` has this match with `.value()` in its first arm. One function for both would be public in `record`, below both crates, and

@@ -1,9 +1,7 @@
 -- The block of entries that a region touches: its numbers, and that it lies in the table. Assumes nothing.
-use Rattle.table.specs.declared.Table.{Table}
-use Rattle.table.specs.declared.Kind.{Kind}
-use Rattle.table.specs.Entries.{kind_at, outside_at, table_in, breaks12}
+use Rattle.table.specs.Entries.{table_in, breaks12}
 use mathlib.Core.List.{List}
-use mathlib.Core.Bool.{Bool, true, false, not, cond}
+use mathlib.Core.Bool.{Bool, cond}
 use mathlib.Core.Path.{◌≡◌, refl, sym}
 use Prim.Native.Nat.{ℕ, ◌+◌, ◌-◌, ◌*◌, ◌/◌, ◌≤◌, ◌<◌}
 use native.Mathlib.Nat.{mul_comm, mul_assoc, mul-le-mul}
@@ -23,7 +21,7 @@ use Rattle.checks.proofs.Records.{Fit, fits_all}
 use Rattle.runs.specs.Runs.{level_in}
 use Rattle.cube.specs.declared.Region.{Region}
 use Rattle.cube.specs.Places.{entry_in, kind_in}
-use Rattle.cube.specs.Regions.{start_of, run_of, is_stored, not_stored}
+use Rattle.cube.specs.Regions.{start_of, run_of, not_stored}
 use Rattle.cube.proofs.Regions.{Within, within}
 use Rattle.regions.specs.declared.Along.{Along}
 use Rattle.regions.specs.Search.{fails, entries_in, Below, along_of, block_of, Passed}
@@ -117,14 +115,6 @@ module _ (r : Record) (g : Region) where
 pub fails-is : (r : Record) (f : List ℕ) (stored : Bool) (e : ℕ) → fails stored (table_in r) f e ≡ cond stored (not_stored r f e) (breaks12 r f e)
 unfolding fails kind_in breaks12
 fails-is r f stored e = refl
-
-pub fails_19 : (stored : Bool) (t : Table) (f : List ℕ) (e : ℕ) (k : Kind) → stored ≡ true → k ≡ kind_at t f e → not (is_stored k) ≡ fails stored t f e
-unfolding fails
-fails_19 stored t f e k q h = rw (q, h)
-
-pub fails_12 : (stored : Bool) (t : Table) (f : List ℕ) (e : ℕ) → stored ≡ false → outside_at t f e ≡ fails stored t f e
-unfolding fails
-fails_12 stored t f e q = rw q
 
 -- ---- what the functions make
 

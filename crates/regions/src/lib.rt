@@ -2,7 +2,7 @@
 // All are done before a byte moves. Their cost grows with the bricks that the region touches, never with the cube.
 #![tactic(auto)]
 
-ghost use Rattle.std.specs.Prelude.{◌≡◌, true, ◌&&◌, ◌+◌, ◌*◌, ◌≤◌, ◌<◌, leb, length};
+ghost use Rattle.std.specs.Prelude.{◌≡◌, false, Bool, true, ◌&&◌, ◌+◌, ◌*◌, ◌≤◌, ◌<◌, leb, length};
 ghost use Rattle.std.specs.List.{find};
 ghost use Rattle.geometry.specs.Limits.{level_cap};
 ghost use Rattle.geometry.specs.Geometry.{extent};
@@ -77,25 +77,44 @@ fn is_stored(kind: Kind) -> bool
     kind.offset().is_some()
 }
 
-// An entry fails check 19, or check 12. Which of the two is a bool, and the searches below are loops that return: over `find` and `find_map`, with the
-// check as a closure, they proved too, and a read of one trace took 7 % more instructions and went from 1.09 to 1.13 of plain Rust, where the goal is 1.1.
-fn entry_fails(entries: &Entries, entry: u64, stored: bool) -> bool
-    requires { entry < entries.now.table.count }
-    ensures { result ≡ fails stored entries.now.table entries.now.file.now entry }
-{
-    if stored {
-        return !is_stored(entries.kind(entry as usize));
+// A check of an entry. The searches are generic in it, and are loops that return: over `find` and `find_map`, with the check as a closure, they proved
+// too, and a read of one trace took 7 % more instructions and went from 1.09 to 1.13 of plain Rust, where the goal is 1.1.
+trait EntryCheck {
+    // It is check 19, and not check 12.
+    ghost stored: { Bool };
+
+    fn fails(entries: &Entries, entry: u64) -> bool
+        requires { entry < entries.now.table.count }
+        ensures { result ≡ fails stored entries.now.table entries.now.file.now entry };
+}
+
+struct RangeCheck;
+
+struct StoredCheck;
+
+impl EntryCheck for RangeCheck {
+    ghost stored = { false };
+
+    fn fails(entries: &Entries, entry: u64) -> bool {
+        entries.is_out_of_range(entry as usize)
     }
-    entries.is_out_of_range(entry as usize)
+}
+
+impl EntryCheck for StoredCheck {
+    ghost stored = { true };
+
+    fn fails(entries: &Entries, entry: u64) -> bool {
+        !is_stored(entries.kind(entry as usize))
+    }
 }
 
 // The first entry that fails, of a row along inline from this entry on.
-fn search_row(entries: &Entries, from: u64, count: u64, stored: bool) -> Option<u32>
+fn search_row<C: EntryCheck>(entries: &Entries, from: u64, count: u64) -> Option<u32>
     requires { from + count ≤ entries.now.table.count }
-    ensures { result ≡ find (fails stored entries.now.table entries.now.file.now) (row_from from count) }
+    ensures { result ≡ find (fails C.stored entries.now.table entries.now.file.now) (row_from from count) }
 {
     for x in 0..count {
-        if entry_fails(entries, from + x, stored) {
+        if C::fails(entries, from + x) {
             return Some((from + x) as u32);
         }
     }
@@ -103,12 +122,12 @@ fn search_row(entries: &Entries, from: u64, count: u64, stored: bool) -> Option<
 }
 
 // The first that fails of the rows of a layer, one after the other crossline.
-fn search_layer(entries: &Entries, b: Block, from: u64, stored: bool) -> Option<u32>
+fn search_layer<C: EntryCheck>(entries: &Entries, b: Block, from: u64) -> Option<u32>
     requires { (from ≤ entries.now.table.count) × LayerBelow b from entries.now.table.count }
-    ensures { result ≡ find (fails stored entries.now.table entries.now.file.now) (layer_from b from) }
+    ensures { result ≡ find (fails C.stored entries.now.table entries.now.file.now) (layer_from b from) }
 {
     for y in 0..b.crossline {
-        let found = search_row(entries, from + y * b.row, b.inline, stored);
+        let found = search_row::<C>(entries, from + y * b.row, b.inline);
         if found.is_some() {
             return found;
         }
@@ -117,12 +136,12 @@ fn search_layer(entries: &Entries, b: Block, from: u64, stored: bool) -> Option<
 }
 
 // The first that fails of the layers of a block, one after the other vertical.
-fn search(entries: &Entries, b: Block, stored: bool) -> Option<u32>
+fn search<C: EntryCheck>(entries: &Entries, b: Block) -> Option<u32>
     requires { Below b entries.now.table.count }
-    ensures { result ≡ find (fails stored entries.now.table entries.now.file.now) (entries_in b) }
+    ensures { result ≡ find (fails C.stored entries.now.table entries.now.file.now) (entries_in b) }
 {
     for z in 0..b.vertical {
-        let found = search_layer(entries, b, b.first + z * b.layer, stored);
+        let found = search_layer::<C>(entries, b, b.first + z * b.layer);
         if found.is_some() {
             return found;
         }
@@ -177,13 +196,13 @@ impl<'a> Checked<'a> {
     {
         let entries = Entries::of(self.file, self.r);
         let b = self.block();
-        if let Some(entry) = search(&entries, b, false) {
+        if let Some(entry) = search::<RangeCheck>(&entries, b) {
             return Err(Refusal::Range(entry));
         }
         if !write {
             return Ok(());
         }
-        match search(&entries, b, true) {
+        match search::<StoredCheck>(&entries, b) {
             Some(entry) => Err(Refusal::NotStored(entry)),
             None => Ok(()),
         }

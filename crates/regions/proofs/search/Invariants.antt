@@ -7,4 +7,4 @@ use Rattle.regions.specs.Search.{fails, layer_from}
 use Rattle.regions.proofs.search.Given as goal
 
 abbrev pub invariant-loop-z : goal.invariant-loop-z
-invariant-loop-z l = (l.z ≤ l.b.vertical) × (find (fails l.stored l.entries.table l.entries.file.now) (cat l.z (λ k. layer_from l.b (l.b.first + k * l.b.layer))) ≡ None)
+invariant-loop-z g l = (l.z ≤ l.b.vertical) × (find (fails g.C.EntryCheck.stored l.entries.table l.entries.file.now) (cat l.z (λ k. layer_from l.b (l.b.first + k * l.b.layer))) ≡ None)

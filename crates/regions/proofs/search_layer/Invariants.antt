@@ -7,4 +7,4 @@ use Rattle.endian.specs.Loops.{cat}
 use Rattle.regions.proofs.search_layer.Given as goal
 
 abbrev pub invariant-loop-y : goal.invariant-loop-y
-invariant-loop-y l = (l.y ≤ l.b.crossline) × (find (fails l.stored l.entries.table l.entries.file.now) (cat l.y (λ k. row_from (l.from + k * l.b.row) l.b.inline)) ≡ None)
+invariant-loop-y g l = (l.y ≤ l.b.crossline) × (find (fails g.C.EntryCheck.stored l.entries.table l.entries.file.now) (cat l.y (λ k. row_from (l.from + k * l.b.row) l.b.inline)) ≡ None)

@@ -5,12 +5,12 @@ use Rattle.regions.specs.Search.{fails}
 use Rattle.regions.proofs.search_row.Goals as goal
 
 pub loop-x-init : goal.loop-x-init
-loop-x-init c = (omega arith, find_start _ _)
+loop-x-init g c = (omega arith, find_start _ _)
 
-pub returns-then-entry_fails : goal.returns-then-entry_fails
-returns-then-entry_fails c =
-    row_hit (fails c.args.stored c.args.entries.now.table c.args.entries.now.file.now) c.args.from c.args.count c.loop-x.x (omega arith) c.loop-x.invariant.1 (sym c.entry_fails.ensures ∙ c.if-entry_fails.true)
+pub returns-then-fails : goal.returns-then-fails
+returns-then-fails g c =
+    row_hit (fails g.C.EntryCheck.stored c.args.entries.now.table c.args.entries.now.file.now) c.args.from c.args.count c.loop-x.x (omega arith) c.loop-x.invariant.1 (sym c.fails.ensures ∙ c.if-fails.true)
 
 pub loop-x-preserved : goal.loop-x-preserved
-loop-x-preserved c =
-    (omega arith, row_more _ _ c.loop-x.x c.loop-x.invariant.1 (sym c.entry_fails.ensures ∙ c.if-entry_fails.false))
+loop-x-preserved g c =
+    (omega arith, row_more _ _ c.loop-x.x c.loop-x.invariant.1 (sym c.fails.ensures ∙ c.if-fails.false))
