@@ -1,4 +1,4 @@
--- For the private functions of reading alone: the items of one brick, as bytes, and a box of a region that holds its samples.
+-- For the private functions of reading alone: the items of one brick, as bytes, and when an inline of a box is one run.
 use Rattle.std.specs.Prelude.{List, ◌≡◌, ◌⊎◌, ℕ, ◌+◌, ◌*◌}
 use Rattle.endian.specs.Loops.{cat}
 use Rattle.endian.specs.Bytes.{peek, lows}

@@ -1,6 +1,6 @@
 // Raw reads: the bytes of a region's samples, vertical fastest and inline slowest, into the front of a lent buffer.
 // The region is read brick by brick: one entry is looked up for each brick that it touches, and of each brick a box is copied,
-// row by row. So the work grows with the region alone.
+// row by row or in longer runs. So the work grows with the region alone.
 #![tactic(auto)]
 
 ghost use Rattle.std.specs.Prelude.{[], ◌∷◌, ◌≡◌, ℕ, ◌+◌, ◌*◌, ◌≤◌, ◌<◌, length};
@@ -26,18 +26,17 @@ use runs::{index, lattice_of};
 use table::Kind;
 
 // n items of one value, each of its low W bytes, into a part that has room for just these, which each function here asks of the part that it is lent.
-// The end of each is counted by hand: after `chunks_exact_mut` a proof knows no byte of a chunk.
+// They go by number: after `chunks_exact_mut` a proof knows no byte of a chunk.
 fn fill<const W: usize>(out: &mut [u8], value: u32, n: usize)
     requires { (W ≤ 4) × (length out.old ≡ n * W) }
     ensures { out.new ≡ cat n (λ t. lows W value) }
 {
     let bytes = value.to_le_bytes();
     let item = &bytes[..W];
-    let mut a = 0;
     for t in 0..n {
+        let a = t * W;
         let e = a + W;
         copy(&mut out[a..e], item);
-        a = e;
     }
 }
 
@@ -88,7 +87,8 @@ impl Items for Raw {
     }
 }
 
-// The inlines of a box of which each is one run, in its brick and in the region. A loop over its rows would cost more than they do.
+// The inlines of a box of which each is one run, in its brick and in the region. A loop over its rows would cost more than they do. Float reads have the
+// same frame around a strip, which asks for another kind of box: one loop for both would take the leaf, its count and what it asks as a third trait.
 fn read_runs(out: &mut [u8], v: &View, corner: Corner, b: BrickBox)
     requires room { Roomy item_bytes v.now out.old }
     requires corner { IsCorner v.now corner b }

@@ -209,7 +209,8 @@ impl<'a> Checked<'a> {
     }
 }
 
-// The checks of a call on a region. A sample takes `item` of what room counts, bytes or floats.
+// The checks of a call on a region. A sample takes `item` of what room counts, bytes or floats. File, record, region and room come as the three calls
+// lend them; `Checked` holds them together once something is known of them.
 fn check_region(
     file: &[u8],
     r: Record,

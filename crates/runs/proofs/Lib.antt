@@ -1,4 +1,4 @@
--- Laws of runs: the lattice's numbers, what a taken verdict gives, buffers that are filled part by part, and a call's answer.
+-- Laws of runs: the lattice's numbers, what a taken verdict gives, buffers that are filled part by part, and what a reader's loops ask and give.
 pub mod Lattices
 pub mod Products
 pub mod Steps

@@ -18,7 +18,7 @@ pub mod walk;
 
 // A region among the bricks of its level, worked out once for a call. Each number of a direction has a name of its own and stands in no array: no
 // loop goes over the directions. Nor does a struct hold those of a direction: its ghost field, that the side is a power of two, would have to hold of
-// `lattice_of`, which is defined for every record.
+// `lattice_of`, which is defined for every record, and without it it would only name the nine numbers otherwise. `Parts` has it where a loop begins.
 #[derive(Clone, Copy)]
 pub struct Lattice {
     // The brick table, and what numbers the bricks of the level.
@@ -46,8 +46,7 @@ pub fn index(x: u32) -> usize
     x as usize
 }
 
-// A quotient by a brick's side, which is one that check 4 lets pass: this stands here and at the two below, since sides are plain numbers of a
-// description. Sides are powers of two, so it is a shift: a division for each brick would cost more than its rows.
+// A quotient by a brick's side, which is one that check 4 lets pass: that stands at each function that divides by one, and is `Parts`' ghost field. Sides are powers of two, so it is a shift: a division for each brick would cost more than its rows.
 pub fn over(x: usize, side: usize) -> usize
     requires { side_ok side ≡ true }
     ensures { result ≡ x / side }

@@ -66,7 +66,7 @@ impl<'a> Site<'a> {
     }
 
     // What the brick that holds a sample of the region is. Which sample is a matter of the call: its three
-    // numbers go on as the loops have them, and that it is one stands at each method that takes them.
+    // numbers go on as they stand in a loop or in a box, and that it is one stands at each method that takes them.
     pub fn kind(&self, file: &[u8], i: usize, j: usize, k: usize) -> Kind
         requires inside { Inside self.now.record.now (place self.now.region.now i j k) }
         requires same_length { self.now.record.now.length ≡ length file.now }

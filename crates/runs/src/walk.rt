@@ -52,7 +52,8 @@ pub trait Reader: Items {
 }
 
 // The rows of a box on one inline. The buffer's room and what the reader was made for stand at each function. Buffer, view and reader make no struct
-// of their own: it would be lent to be changed, so that each function would have to promise besides that view and reader stay as they are.
+// of their own: it would be lent to be changed, so that each function would have to promise besides that view and reader stay as they are. One of view
+// and reader alone would save a clause at each, and lengthen each promise, which names the view's record, file and region, by a step.
 fn read_rows<R: Items>(
     out: &mut [R::Element],
     v: &View,
@@ -104,7 +105,8 @@ pub fn read_inlines<R: Items>(
     }
 }
 
-// The boxes of the bricks one above the other. The part that a loop goes through is its own, so that it lies in one brick stands at each.
+// The boxes of the bricks one above the other. Each loop makes the parts of its own direction and hands on those of the loops around it: that these lie in
+// one brick each stands at each.
 fn read_boxes<R: Reader>(out: &mut [R::Element], v: &View, reader: &R, i: Span, j: Span)
     requires fits { R.fits reader.now v.now.site.record.now }
     requires room { Roomy R.width v.now out.old }

@@ -1,4 +1,4 @@
--- For the private functions of sampling alone, the parts of a float read: the coding range, the samples of a brick, and the boxes of a region.
+-- For the private functions of sampling alone, the parts of a float read: the coding range, the samples of a brick, and strips of them.
 use Rattle.std.specs.Prelude.{false, List, [], ◌∷◌, ◌≡◌, ℕ, ◌+◌, ◌*◌, Float}
 use Rattle.endian.specs.Loops.{cat}
 use Rattle.endian.specs.Bytes.{le}

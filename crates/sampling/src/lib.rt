@@ -85,20 +85,19 @@ impl Items for Range {
     }
 }
 
-// n items of W bytes, each of them step bytes after the one before, put one after the other. The end of each is counted by hand:
-// after `chunks_exact_mut` a proof knows no byte of a chunk.
+// n items of W bytes, each of them step bytes after the one before, put one after the other. They go by number: after
+// `chunks_exact_mut` a proof knows no byte of a chunk.
 fn gather<const W: usize>(out: &mut [u8], file: &[u8], from: usize, step: usize, n: usize)
     requires out_len { length out.old ≡ n * W }
     requires by_index { (t : ℕ) → t < n → from + t * step + W ≤ length file.now }
     ensures { out.new ≡ cat n (λ t. peek file.now (from + t * step) W) }
 {
-    let mut a = 0;
     for t in 0..n {
+        let a = t * W;
         let e = a + W;
         let p = from + t * step;
         let pe = p + W;
         copy(&mut out[a..e], &file[p..pe]);
-        a = e;
     }
 }
 

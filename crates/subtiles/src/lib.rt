@@ -70,19 +70,18 @@ impl Way for ToSubtiled {
     }
 }
 
-// Each run of `run` bytes of the buffer, in turn, from its place in the other order. The end of each is counted by hand: after
+// Each run of `run` bytes of the buffer, in turn, from its place in the other order. They go by number: after
 // `chunks_exact_mut` a proof knows no byte of a chunk.
 fn move_runs<W: Way>(out: &mut [u8], brick: &[u8], n1: usize, runs: usize, run: usize)
     requires { Movable W.plain n1 runs run (length brick.now) (length out.old) }
     ensures { out.new ≡ cat runs (λ r. peek brick.now (source_run W.plain n1 r * run) run) }
 {
-    let mut a = 0;
     for r in 0..runs {
+        let a = r * run;
         let e = a + run;
         let p = W::source(n1, r) * run;
         let q = p + run;
         copy(&mut out[a..e], &brick[p..q]);
-        a = e;
     }
 }
 
@@ -98,7 +97,12 @@ fn permute<W: Way>(out: &mut [u8], brick: &[u8], side: [u32; 3], width: u32) -> 
     let n1 = side[1] as usize;
     let n2 = side[2] as usize;
     let item = width as usize;
-    let bytes = brick_bytes(n0 as u64, n1 as u64, n2 as u64, item as u64);
+    let bytes = brick_bytes(
+        u64::from(side[0]),
+        u64::from(side[1]),
+        u64::from(side[2]),
+        u64::from(width),
+    );
     let n = bytes as usize;
     let room = out.len();
     if (brick.len() < n) | (room < n) {

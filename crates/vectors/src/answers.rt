@@ -143,7 +143,7 @@ fn say_walk<'a>(rt: &impl Print, start: Strings<'a>) -> io::Result<()> {
     Ok(())
 }
 
-// The strings of a cube by a walker. One that is refused says so at each turn.
+// The strings of a cube by a walker. Where there is none, the refusal is said once for each turn.
 pub fn say_strings(rt: &impl Print, file: &[u8], s: &Setting) -> io::Result<()> {
     print!(rt; ":")?;
     match strings_of(file, s.record) {

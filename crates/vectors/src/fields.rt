@@ -16,7 +16,7 @@ pub struct Change {
 
 impl Change {
     // The record with the change. Without a clause: which part of the record a field's number changes is the match itself, and an equation would be
-    // its 21 arms once more. What is printed of the calls after a change is compared with `stdout`.
+    // its 22 arms once more. What is printed of the calls after a change is compared with `stdout`.
     pub fn made_in(self, mut r: Record) -> Record {
         let Change {
             field,
