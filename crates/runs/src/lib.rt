@@ -46,7 +46,8 @@ pub fn index(x: u32) -> usize
     x as usize
 }
 
-// A quotient by a brick's side, which is one that check 4 lets pass: that stands at each function that divides by one, and is `Parts`' ghost field. Sides are powers of two, so it is a shift: a division for each brick would cost more than its rows.
+// A quotient by a brick's side, which is one that check 4 lets pass: that stands at each function that divides by one, and is `Parts`' ghost field.
+// Sides are powers of two, so it is a shift: a division for each brick would cost more than its rows.
 pub fn over(x: usize, side: usize) -> usize
     requires { side_ok side ≡ true }
     ensures { result ≡ x / side }
