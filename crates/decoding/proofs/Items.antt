@@ -1,5 +1,5 @@
 -- A buffer filled item by item, and what a type number says of its items. Assumes nothing.
-use Prim.Native.Nat.{ℕ, zero, suc, ◌+◌, ◌*◌, ◌≤◌, ◌<◌}
+use Prim.Native.Nat.{ℕ, zero, suc, ◌+◌, ◌*◌, ◌<◌}
 use mathlib.Core.Path.{◌≡◌, refl, sym, ap, ◌∙◌}
 use mathlib.Core.Logic.{inl, inr, ⊎_elim}
 use mathlib.Core.List.{List, [], ◌∷◌, ◌++◌}
@@ -16,16 +16,13 @@ use Rattle.record.specs.declared.Coding.TheVariants.{Scaled, Float32}
 use Rattle.record.proofs.Laws.{coding_each, scaled_is}
 use Rattle.decoding.specs.Items.{Integers}
 use Rattle.endian.proofs.Cats.{cat-more}
-use Rattle.endian.proofs.Parts.{Filled, filled_store, filled_all}
+use Rattle.endian.proofs.Parts.{Filled, filled_store}
 
 -- ---- a loop that stores one item a turn: g n is the n-th
 
 module _ {A : Type 0} (g : ℕ → A) where
   pub items_more : {d out : List A} {n : ℕ} (x : A) → Filled d (cat n (λ t. g t ∷ [])) out n → n < length out → x ≡ g n → Filled d (cat (n + 1) (λ t. g t ∷ [])) (set out n x) (n + 1)
   items_more {n = n} x f l e = filled_store x f (omega (arith, f.size)) (cat-more n (λ t. g t ∷ []) ∙ ap (λ y. cat n (λ t. g t ∷ []) ++ (y ∷ [])) (sym e))
-
-  pub items-all : {d out : List A} {n : ℕ} → Filled d (cat n (λ t. g t ∷ [])) out n → length out ≤ n → out ≡ cat (length d) (λ t. g t ∷ [])
-  items-all {n = n} f l = filled_all f (omega (arith, f.size)) ∙ ap (λ m. cat m (λ t. g t ∷ [])) (omega (arith, f.size, f.within))
 
 -- a value again and again
 replicate_more : {A : Type 0} (v : A) (n : ℕ) → replicate n v ++ (v ∷ []) ≡ v ∷ replicate n v

@@ -10,9 +10,8 @@ use lib.ListN.{length, get_or, take, drop, length-replicate, replicate-append-re
 use lib.Seq.{take_at, drop_at}
 use Rattle.endian.specs.Loops.{cat}
 use Rattle.endian.specs.Bytes.{Bytes, le, lows}
-use Rattle.endian.proofs.Bytes.{le_same, le_cons, le-lows}
+use Rattle.endian.proofs.Bytes.{le_same, le_cons}
 use Rattle.endian.proofs.Cats.{length-cat}
-use Rattle.endian.proofs.Puts.{length-lows}
 use Rattle.making.specs.Making.{zero_bytes}
 
 -- the low bytes depend on the number's rest alone
@@ -36,13 +35,6 @@ le-after k (x ∷ xs) ys a m e =
 -- a number inside the first bytes
 pub le-within : (k : ℕ) (xs ys : List ℕ) (a : ℕ) → a + k ≤ length xs → le k (xs ++ ys) a ≡ le k xs a
 le-within k xs ys a h = le_same k (xs ++ ys) xs a (λ i lo hi. get_or-append xs ys 0 i (omega arith))
-
--- the number in the bytes between others
-pub field : (k : ℕ) (xs : List ℕ) (v : ℕ) (ys : List ℕ) (a : ℕ) → a ≡ length xs → v < 256 ^ k → le k (xs ++ (lows k v ++ ys)) a ≡ v
-field k xs v ys a e h =
-    le-after k xs (lows k v ++ ys) a 0 (omega arith)
-    ∙ le-within k (lows k v) ys 0 (omega (arith, length-lows k v))
-    ∙ le-lows k v h
 
 -- the number in piece e of pieces of k bytes each
 pub le-cat : (k m e : ℕ) (g : ℕ → List ℕ) (rest : List ℕ) → ((i : ℕ) → length (g i) ≡ k) → e < m → le k (cat m g ++ rest) (e * k) ≡ le k (g e) 0

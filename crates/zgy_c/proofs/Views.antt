@@ -3,8 +3,7 @@ use mathlib.Core.List.{List}
 use mathlib.Core.Path.{◌≡◌, sym, ◌∙◌}
 use Prim.Native.Nat.{ℕ}
 use Rattle.record.specs.declared.Record.{Record}
-use Rattle.record.specs.declared.Refusal.{Refusal}
-use Rattle.record.specs.Answers.{Verdict, Taken, refused, number, entry}
+use Rattle.record.specs.Answers.{Verdict, Taken}
 use Rattle.table.specs.Entries.{table_in, kind_in}
 use Rattle.table.specs.declared.Kind.{Kind}
 use Rattle.table.specs.declared.Table.{Table}
@@ -17,9 +16,6 @@ use Rattle.zgy_c.specs.declared.ZgyView.{ZgyView}
 module _ (r : Record) (f filler : List ℕ) (e : ℕ) where
   abbrev answer : ZgyView
   answer = view_c r f filler e
-
-  pub view_refused : (x : Refusal) → view_verdict r f filler e ≡ refused x → record { number = number x; entry = entry x; source = 0; offset = 0; length = 0 } ≡ answer
-  view_refused x v = rw v
 
   pub view_taken : (t : Table) (k : Kind) → view_verdict r f filler e ≡ Taken → t ≡ table_in r → k ≡ kind_in r f e → part_c (shown_of k t.brick) ≡ answer
   unfolding view_of table_in
