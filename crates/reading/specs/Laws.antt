@@ -2,8 +2,6 @@
 use Prim.Native.Nat.{ℕ, ◌+◌, ◌<◌}
 use mathlib.Core.Path.{◌≡◌, sym}
 use mathlib.Core.List.{List}
-use mathlib.Core.Logic.{⊎_elim}
-use native.Mathlib.Omega.{arith}
 use native.Mathlib.Nat.{le_trans}
 use lib.ListN.{length}
 use Rattle.endian.specs.Loops.{cat}
@@ -20,11 +18,8 @@ use Rattle.runs.specs.declared.Lattice.{Lattice}
 use Rattle.runs.specs.Runs.{Ready}
 use Rattle.runs.specs.Boxes.{Rows}
 use Rattle.runs.specs.Readers.{ItemsLaws}
-use Rattle.runs.proofs.Steps.{ready_fit, width_of}
+use Rattle.runs.proofs.Steps.{ready_fit, some_bytes}
 use Rattle.reading.specs.Items.{raw_items, raw_at}
-
-some_bytes : (r : Record) (f : List ℕ) (g : Region) (q : Lattice) → Ready r f g q → 0 < item_bytes r
-some_bytes r f g q ready = ⊎_elim (λ e. omega arith) (⊎_elim (λ e. omega arith) (λ e. omega arith)) (width_of r f g q ready)
 
 sample-bytes : (r : Record) (f : List ℕ) (g : Region) (q : Lattice) → Ready r f g q → (x y z : ℕ) → x < run_of g 0 → y < run_of g 1 → z < run_of g 2 → length (raw_at r f g x y z) ≡ item_bytes r
 sample-bytes r f g q ready x y z hx hy hz =

@@ -3,11 +3,10 @@
 // row by row or in longer runs. So the work grows with the region alone.
 #![tactic(auto)]
 
-ghost use Rattle.std.specs.Prelude.{[], ◌∷◌, ◌≡◌, ℕ, ◌+◌, ◌*◌, ◌≤◌, ◌<◌, length};
+ghost use Rattle.std.specs.Prelude.{[], ◌∷◌, ◌≡◌, ◌*◌, ◌≤◌, length};
 ghost use Rattle.endian.specs.Loops.{cat};
 ghost use Rattle.endian.specs.Bytes.{lows};
 ghost use Rattle.table.specs.Entries.{Width};
-ghost use Rattle.table.specs.declared.Kind.TheVariants.{Stored};
 ghost use Rattle.record.specs.Answers.{Taken};
 ghost use Rattle.cube.specs.Places.{item_bytes, rows_of};
 ghost use Rattle.cube.specs.Calls.{raw_read, raw, answer_of, buffers_after};

@@ -51,6 +51,10 @@ pub record PartsOf (q : Lattice) (d : ℕ) (p : Parts) : Type 0 where
   pub side : p.side ≡ side_on q d
   pub end : p.end ≡ count_on q d
 
+-- and it goes on over the same direction
+pub parts_on : {q : Lattice} {d : ℕ} {p t : Parts} → PartsOf q d p → t.start ≡ p.start → t.side ≡ p.side → t.end ≡ p.end → PartsOf q d t
+parts_on was es ei ee = record { start = es ∙ was.start; side = ei ∙ was.side; end = ee ∙ was.end }
+
 module _ {r : Record} {f : List ℕ} {g : Region} {q : Lattice} (ready : Ready r f g q) where
   numbers_from : (i j k : ℕ) → i < q.count0 → j < q.count1 → k < q.count2 → Numbers q i j k
   numbers_from i j k hi hj hk =

@@ -2,6 +2,7 @@
 use Prim.Native.Nat.{ℕ, ◌+◌, ◌*◌, ◌%◌, ◌≤◌, ◌<◌}
 use mathlib.Core.Path.{◌≡◌, sym, ap, ◌∙◌}
 use mathlib.Core.List.{List}
+use mathlib.Core.Logic.{⊎_elim}
 use native.Mathlib.Omega.{arith}
 use native.Mathlib.Nat.{mod-lt, mul-le-mul_right}
 use lib.Arith.{digits_lt}
@@ -78,6 +79,9 @@ module _ (r : Record) (f : List ℕ) (g : Region) (q : Lattice) (h : Ready r f g
 
   pub width_of : Width (item_bytes r)
   width_of = described-width _ _ ready_fit.is-described
+
+  pub some_bytes : 0 < item_bytes r
+  some_bytes = ⊎_elim (λ e. omega arith) (⊎_elim (λ e. omega arith) (λ e. omega arith)) width_of
 
   pub lattice_width : Width q.width
   lattice_width = rw ready-width width_of

@@ -1,7 +1,6 @@
 -- The turns of the loops of a write: what the calls of a turn answered comes in as equations. Assumes nothing.
 use Prim.Native.Nat.{ℕ, ◌/◌, ◌+◌, ◌-◌, ◌*◌, ◌≤◌, ◌<◌, zero-le}
 use mathlib.Core.Path.{◌≡◌, refl, sym, ap, subst, ◌∙◌}
-use mathlib.Core.Logic.{inl, inr}
 use mathlib.Core.List.{List, ◌++◌}
 use native.Mathlib.Omega.{arith}
 use native.Mathlib.Nat.{add-sub_cancel_left, suc-mul, zero-mul, lt_of_mul-lt-mul_right, le_of_mul-le-mul_right, mul-pos, mul-div_cancel_left, mul_assoc, add-mul, le_trans, mul-le-mul_right}
@@ -22,7 +21,7 @@ use Rattle.cube.proofs.Regions.{Held}
 use Rattle.cube.proofs.Runs.{run_write}
 use Rattle.cube.proofs.Writes.{Kept, kept_refl}
 use Rattle.runs.specs.declared.Lattice.{Lattice}
-use Rattle.runs.proofs.Steps.{width_of, counts, ready-width, step_fits}
+use Rattle.runs.proofs.Steps.{some_bytes, counts, ready-width, step_fits}
 use Rattle.runs.proofs.Rows.{along_in}
 use Rattle.runs.specs.Boxes.{Along}
 use Rattle.writing.specs.Writes.{run_bytes, plane_bytes, sample_to, Writable}
@@ -165,11 +164,8 @@ module _ {r : Record} {f₀ f : List ℕ} {s : ℕ → List ℕ → List ℕ →
 
 -- the parts that a lattice's counts cut the bytes of an inline and of a region into
 module _ {r : Record} {f : List ℕ} {g : Region} {q : Lattice} (h : Writable r f g q) where
-  some_bytes : 0 < item_bytes r
-  some_bytes = elim (width_of r f g q h.ready) [ inl e ↦ omega (arith, e) | inr (inl e) ↦ omega (arith, e) | inr (inr e) ↦ omega (arith, e) ]
-
   pub run_some : 0 < run_bytes r g
-  run_some = mul-pos h.some.vertical some_bytes
+  run_some = mul-pos h.some.vertical (some_bytes r f g q h.ready)
 
   pub plane_some : 0 < plane_bytes r g
   plane_some = mul-pos h.some.crossline run_some

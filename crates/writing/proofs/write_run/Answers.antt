@@ -3,7 +3,7 @@ use mathlib.Core.Path.{◌≡◌, refl, ap, ◌∙◌}
 use native.Mathlib.Omega.{arith}
 use Rattle.endian.specs.Loops.{up}
 use Rattle.cube.specs.Regions.{run_of}
-use Rattle.runs.proofs.Sites.{asks_on, turn_on, end_on}
+use Rattle.runs.proofs.Sites.{parts_on, asks_on, turn_on, end_on}
 use Rattle.writing.specs.Writes.{sample_to}
 use Rattle.writing.proofs.Turns.{turn_inside, turn_still, turn_part, turn_fits, turn_more}
 use Rattle.writing.proofs.write_run.Goals as goal
@@ -72,7 +72,7 @@ loop-down-preserved c =
     let a = turn_on c.requires.writable.ready 2 _ (omega arith) was.2 x.0 x.1 x.2 in
     let more = turn_more c.requires.writable c.requires.inside a c.args.run.now c.requires.bytes (rw (← x.1) at was.0)
     c.offset_on-offset.ensures c.item-item.ensures c.index-w.ensures.0 c.write_items.ensures in
-    (rw (x.3, ← x.1) more, omega (arith, c.write_items.auto.file), record { start = s.0 ∙ was.2.start; side = s.1 ∙ was.2.side; end = s.2 ∙ was.2.end })
+    (rw (x.3, ← x.1) more, omega (arith, c.write_items.auto.file), parts_on was.2 s.0 s.1 s.2)
 
 pub returns : goal.returns
 returns c =

@@ -1,9 +1,9 @@
-use mathlib.Core.Path.{◌≡◌, ◌∙◌}
+use mathlib.Core.Path.{◌≡◌}
 use native.Mathlib.Omega.{arith}
 use native.Mathlib.Nat.{zero-add}
 use Rattle.cube.specs.Regions.{run_of}
 use Rattle.runs.proofs.Boxes.{boxed_more2}
-use Rattle.runs.proofs.Sites.{asks_on, turn_on, end_on}
+use Rattle.runs.proofs.Sites.{parts_on, asks_on, turn_on, end_on}
 use Rattle.runs.proofs.walk.read_boxes.Goals as goal
 
 pub new-down-items-requires : goal.new-down-items-requires
@@ -19,7 +19,7 @@ loop-down-preserved g c =
     let s = c.in-Some.ensures.steps in
     let x = s.3 in
     let was = c.loop-down.invariant in
-    (rw x.3 (boxed_more2 was.0 (rw (zero-add, ← x.1) c.read_box.ensures)), record { start = s.0 ∙ was.1.start; side = s.1 ∙ was.1.side; end = s.2 ∙ was.1.end })
+    (rw x.3 (boxed_more2 was.0 (rw (zero-add, ← x.1) c.read_box.ensures)), parts_on was.1 s.0 s.1 s.2)
 
 pub returns : goal.returns
 returns g c =

@@ -1,9 +1,9 @@
-use mathlib.Core.Path.{◌≡◌, ◌∙◌}
+use mathlib.Core.Path.{◌≡◌}
 use native.Mathlib.Omega.{arith}
 use native.Mathlib.Nat.{zero-add}
 use Rattle.cube.specs.Regions.{run_of}
 use Rattle.runs.proofs.Boxes.{boxed_more0, boxed_all}
-use Rattle.runs.proofs.Sites.{asks_on, turn_on, end_on}
+use Rattle.runs.proofs.Sites.{parts_on, asks_on, turn_on, end_on}
 use Rattle.runs.proofs.walk.read_bricks.Goals as goal
 
 pub new-along-items-requires : goal.new-along-items-requires
@@ -19,7 +19,7 @@ loop-along-preserved g c =
     let s = c.in-Some.ensures.steps in
     let x = s.3 in
     let was = c.loop-along.invariant in
-    (rw x.3 (boxed_more0 was.0 (rw (zero-add, ← x.1) c.read_columns.ensures)), record { start = s.0 ∙ was.1.start; side = s.1 ∙ was.1.side; end = s.2 ∙ was.1.end })
+    (rw x.3 (boxed_more0 was.0 (rw (zero-add, ← x.1) c.read_columns.ensures)), parts_on was.1 s.0 s.1 s.2)
 
 pub returns : goal.returns
 returns g c =
