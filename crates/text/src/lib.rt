@@ -5,6 +5,8 @@ ghost use Rattle.std.specs.Prelude.{◌≡◌, ◌∷◌, [], ◌+◌, ◌-◌, 
 ghost use Rattle.floats.specs.Rules.{signed_of};
 ghost use Rattle.text.specs.Text.{decimal, signed_decimal};
 
+use endian::copy;
+
 // Where bytes go: a lent slice, and the place after what is written. Each call goes on where the one before it ended, and leaves
 // out what does not fit, so whoever makes a writer looks at its place once, at the end. It is no `fmt::Write`: `write!` promises its
 // text only where it answers Ok, and nothing promises that it does, while a listing is promised of every file. Nor does it take the kit's `itoa`,
@@ -62,13 +64,13 @@ impl<'a> Writer<'a> {
         self.at + n.min(self.out.len() - self.at)
     }
 
-    // A text, or any bytes.
+    // A text, or any bytes. By the leaf of `endian`: the library's copy_from_slice would have hosts that link the archive bring a memmove.
     pub fn push_bytes(&mut self, bytes: &[u8])
         ensures { Writes self.old bytes.now self.new }
     {
         let end = self.place_after(bytes.len());
         let fitting = &bytes[..end - self.at];
-        self.out[self.at..end].copy_from_slice(fitting);
+        copy(&mut self.out[self.at..end], fitting);
         self.at = end;
     }
 
