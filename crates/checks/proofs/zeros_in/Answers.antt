@@ -1,12 +1,32 @@
-use mathlib.Core.Path.{◌∙◌}
-use Rattle.std.proofs.Common.{rules, tests, ◌==◌}
-use Rattle.std.proofs.lemmas.Iterator.{YieldsList-from_slice}
-use Rattle.std.proofs.lemmas.Iterator.Consumers.{count_from_yields_List, YieldsList-from_filter}
-use Rattle.checks.proofs.Texts.{count_zeros}
+use Prim.Native.Nat.{◌+◌}
+use mathlib.Core.Path.{◌≡◌, ap, ◌∙◌}
+use native.Mathlib.Omega.{arith}
+use lib.ListN.{length}
+use Rattle.endian.specs.Loops.{sum_to}
+use Rattle.checks.specs.Checks.{zeros}
+use Rattle.checks.proofs.Texts.{zeros_to, zero_more, other-more}
+use Rattle.checks.proofs.zeros_in.Goals.{then-byte-eq0, else-byte-eq0}
 use Rattle.checks.proofs.zeros_in.Goals as goal
 
+pub loop-byte-init : goal.loop-byte-init
+unfolding sum_to
+loop-byte-init c = omega arith
+
+pub loop-byte-preserved : goal.loop-byte-preserved
+loop-byte-preserved c =
+    elim c.if-byte-eq0.branch [
+      | then-byte-eq0 w ↦
+          let e : zeros_to c.args.text.now (c.loop-byte.byte-index + 1) ≡ zeros_to c.args.text.now c.loop-byte.byte-index + 1 =
+          zero_more c.args.text.now c.loop-byte.byte-index w.if-byte-eq0.true in
+          omega arith
+      | else-byte-eq0 w ↦
+          let e : zeros_to c.args.text.now (c.loop-byte.byte-index + 1) ≡ zeros_to c.args.text.now c.loop-byte.byte-index + 0 =
+          other-more c.args.text.now c.loop-byte.byte-index w.if-byte-eq0.false in
+          omega arith
+    ]
+
 pub returns : goal.returns
+unfolding zeros
 returns c =
-    count_from_yields_List _ _ c.count.ensures.ran
-    (YieldsList-from_filter _ (λ b. b == 0) (YieldsList-from_slice c.args.text.now cc) c.filter.ensures.closure (λ x r q k. search (rules, tests)))
-    ∙ count_zeros c.args.text.now
+    let e : c.loop-byte.byte-index ≡ length c.args.text.now = omega arith in
+    c.loop-byte.invariant.0 ∙ ap (zeros_to c.args.text.now) e
