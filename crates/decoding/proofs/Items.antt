@@ -1,11 +1,11 @@
 -- A buffer filled item by item, and what a type number says of its items. Assumes nothing.
-use Prim.Native.Nat.{ℕ, zero, suc, ◌+◌, ◌*◌, ◌<◌}
+use Prim.Native.Nat.{ℕ, ◌+◌, ◌*◌, ◌<◌}
 use mathlib.Core.Path.{◌≡◌, refl, sym, ap, ◌∙◌}
 use mathlib.Core.Logic.{inl, inr, ⊎_elim}
 use mathlib.Core.List.{List, [], ◌∷◌, ◌++◌}
 use native.Mathlib.Omega.{arith}
 use lib.Ieee.{Float}
-use lib.ListN.{length, get_or, set, replicate}
+use lib.ListN.{length, get_or, set}
 use Rattle.endian.specs.Loops.{cat}
 use Rattle.endian.specs.Bytes.{le}
 use Rattle.record.specs.Types.{coding_of, item_width, width_of, decode_by, decode_of}
@@ -23,16 +23,6 @@ use Rattle.endian.proofs.Parts.{Filled, filled_store}
 module _ {A : Type 0} (g : ℕ → A) where
   pub items_more : {d out : List A} {n : ℕ} (x : A) → Filled d (cat n (λ t. g t ∷ [])) out n → n < length out → x ≡ g n → Filled d (cat (n + 1) (λ t. g t ∷ [])) (set out n x) (n + 1)
   items_more {n = n} x f l e = filled_store x f (omega (arith, f.size)) (cat-more n (λ t. g t ∷ []) ∙ ap (λ y. cat n (λ t. g t ∷ []) ++ (y ∷ [])) (sym e))
-
--- a value again and again
-replicate_more : {A : Type 0} (v : A) (n : ℕ) → replicate n v ++ (v ∷ []) ≡ v ∷ replicate n v
-replicate_more v zero = refl
-replicate_more v (suc n) = ap (λ l. v ∷ l) (replicate_more v n)
-
-pub replicate_cat : {A : Type 0} (v : A) (n : ℕ) → replicate n v ≡ cat n (λ _. v ∷ [])
-unfolding cat
-replicate_cat v zero = refl
-replicate_cat v (suc n) = sym (replicate_more v n) ∙ ap (λ l. l ++ (v ∷ [])) (replicate_cat v n)
 
 -- ---- what a type number says
 
