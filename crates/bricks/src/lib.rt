@@ -42,7 +42,8 @@ fn check_entry(file: &[u8], r: Record, entry: u32) -> Result<(), Refusal>
     Ok(())
 }
 
-// What an entry names, once its checks have passed.
+// What an entry names, once its checks have passed. Inline in both its callers: a call would copy the record.
+#[inline(always)]
 fn kind_of_entry(file: &[u8], r: Record, entry: u32) -> Result<Kind, Refusal>
     ensures { result ≡ answered (kind_verdict r file.now entry) (kind_in r file.now entry) }
 {

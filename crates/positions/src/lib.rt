@@ -16,10 +16,12 @@ pub fn position(r: Record, dimension: u32, index: u32) -> Result<f64, Refusal>
         return Err(Refusal::Record);
     }
     let along = dimension as usize;
-    if 3 <= dimension || r.description.size[along] <= index {
+    // The three numbers of a direction by themselves: an index into the record would copy it whole.
+    let size = r.description.size;
+    if 3 <= dimension || size[along] <= index {
         return Err(Refusal::Index);
     }
-    let orig = r.grid.orig[along];
-    let inc = r.grid.inc[along];
-    Ok(floats::position(orig, inc, index))
+    let orig = r.grid.orig;
+    let inc = r.grid.inc;
+    Ok(floats::position(orig[along], inc[along], index))
 }

@@ -4,7 +4,7 @@ use native.Mathlib.Omega.{arith}
 use borrow.Author.Rules.{rules}
 use Rattle.positions.proofs.Answers.{grid-finite, index-small, breaks_14, no_dimension, no_index, inside}
 use Rattle.positions.proofs.position.Goals as goal
-use Rattle.positions.proofs.position.Goals.{then-dimension-ge3-via-then-dimension-ge3, then-dimension-ge3-via-else-dimension-ge3+then-r-along}
+use Rattle.positions.proofs.position.Goals.{then-dimension-ge3-via-then-dimension-ge3, then-dimension-ge3-via-else-dimension-ge3+then-size-along}
 
 pub position-requires : goal.position-requires
 position-requires c =
@@ -22,8 +22,8 @@ returns-then-dimension-ge3 c =
     let e = sym c.check14.ensures ∙ c.if-check14.false in
     elim c.then-dimension-ge3.branch [
       | then-dimension-ge3-via-then-dimension-ge3 w ↦ no_dimension _ c.args.dimension c.args.index e w.if-dimension-ge3.true
-      | then-dimension-ge3-via-else-dimension-ge3+then-r-along w ↦
-          no_index _ c.args.dimension c.args.index e w.if-dimension-ge3.false w.if-r-along.true
+      | then-dimension-ge3-via-else-dimension-ge3+then-size-along w ↦
+          no_index _ c.args.dimension c.args.index e w.if-dimension-ge3.false w.if-size-along.true
     ]
 
 pub returns : goal.returns
