@@ -67,8 +67,8 @@ module _ {r : Record} {f : List ℕ} {g : Region} {q : Lattice} (ready : Ready r
       let n = counts r f g q ready in
       numbers_from _ _ _ (omega (arith, n, some.inline)) (omega (arith, n, some.crossline)) (omega (arith, n, some.vertical))
 
-  -- what an iterator over a direction's parts asks
-  pub asks_on : (d : ℕ) → d ≤ 2 → Holds g 0 0 0 → (side_ok (side_on q d) ≡ true) × (start_on q d + count_on q d ≤ 4294967296)
+  -- what an iterator over a direction's parts asks: the sum is so small that it fits with another direction's start too
+  pub asks_on : (d : ℕ) → d ≤ 2 → Holds g 0 0 0 → (side_ok (side_on q d) ≡ true) × (start_on q d + count_on q d ≤ 2147483648)
   asks_on zero l some = let n = last some in (n.ok0, omega (arith, n.at0))
   asks_on (suc zero) l some = let n = last some in (n.ok1, omega (arith, n.at1))
   asks_on (suc (suc zero)) l some = let n = last some in (n.ok2, omega (arith, n.at2))

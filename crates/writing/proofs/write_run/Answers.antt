@@ -9,7 +9,10 @@ use Rattle.writing.proofs.Turns.{turn_inside, turn_still, turn_part, turn_fits, 
 use Rattle.writing.proofs.write_run.Goals as goal
 
 pub new-down-items-requires : goal.new-down-items-requires
-new-down-items-requires c = asks_on c.requires.writable.ready 2 (omega arith) c.requires.writable.some
+new-down-items-requires c =
+    let a = asks_on c.requires.writable.ready 2 (omega arith) c.requires.writable.some in
+    let b = asks_on c.requires.writable.ready 1 (omega arith) c.requires.writable.some in
+    (a.0, omega (arith, a.1, b.1))
 
 pub loop-down-init : goal.loop-down-init
 unfolding up

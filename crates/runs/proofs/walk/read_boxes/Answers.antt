@@ -7,7 +7,7 @@ use Rattle.runs.proofs.Sites.{parts_on, asks_on, turn_on, end_on}
 use Rattle.runs.proofs.walk.read_boxes.Goals as goal
 
 pub new-down-items-requires : goal.new-down-items-requires
-new-down-items-requires g c = asks_on c.args.v.now.ready 2 (omega arith) c.args.v.now.some
+new-down-items-requires g c = let a = asks_on c.args.v.now.ready 2 (omega arith) c.args.v.now.some in (a.0, omega (arith, a.1))
 
 pub read_box-requires-clause-in_brick : goal.read_box-requires-clause-in_brick
 read_box-requires-clause-in_brick g c =

@@ -7,7 +7,7 @@ use Rattle.runs.proofs.Sites.{parts_on, asks_on, turn_on, end_on}
 use Rattle.runs.proofs.walk.read_bricks.Goals as goal
 
 pub new-along-items-requires : goal.new-along-items-requires
-new-along-items-requires g c = asks_on c.args.v.now.ready 0 (omega arith) c.args.v.now.some
+new-along-items-requires g c = let a = asks_on c.args.v.now.ready 0 (omega arith) c.args.v.now.some in (a.0, omega (arith, a.1))
 
 pub read_columns-requires-clause-through : goal.read_columns-requires-clause-through
 read_columns-requires-clause-through g c =

@@ -7,7 +7,7 @@ use Rattle.runs.proofs.Sites.{parts_on, asks_on, turn_on, end_on}
 use Rattle.runs.proofs.walk.read_columns.Goals as goal
 
 pub new-across-items-requires : goal.new-across-items-requires
-new-across-items-requires g c = asks_on c.args.v.now.ready 1 (omega arith) c.args.v.now.some
+new-across-items-requires g c = let a = asks_on c.args.v.now.ready 1 (omega arith) c.args.v.now.some in (a.0, omega (arith, a.1))
 
 pub read_column-requires-clause-through : goal.read_column-requires-clause-through
 read_column-requires-clause-through g c =
