@@ -89,7 +89,7 @@ pub fn decode_one(datatype: u8, raw: u32, min: f64, max: f64) -> f64
     }
 }
 
-// The same value throughout. The library's `fill` stores the last element by itself, so that in a row of 8 the four before it are stored one by one
+// The same value throughout. The library's `fill` stores the last element by itself, so that in a row of 8 the three before it are stored one by one
 // too, and short rows of constant bricks took half as many instructions again.
 pub fn fill_floats(out: &mut [f64], value: f64)
     ensures { out.new ≡ cat (length out.old) (λ n. value ∷ []) }

@@ -16,7 +16,7 @@ pub fn position(r: Record, dimension: u32, index: u32) -> Result<f64, Refusal>
         return Err(Refusal::Record);
     }
     let along = dimension as usize;
-    // The three numbers of a direction by themselves: an index into the record would copy it whole.
+    // Each array is taken out before it is indexed: an index into the record itself would copy it whole.
     let size = r.description.size;
     if 3 <= dimension || size[along] <= index {
         return Err(Refusal::Index);

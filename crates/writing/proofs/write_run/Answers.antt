@@ -8,6 +8,7 @@ use Rattle.writing.specs.Writes.{sample_to}
 use Rattle.writing.proofs.Turns.{turn_inside, turn_still, turn_part, turn_fits, turn_more}
 use Rattle.writing.proofs.write_run.Goals as goal
 
+-- the sum would fit with the crosslines' start too, so a run that is cut by another direction's start is refused for what it writes
 pub new-down-items-requires : goal.new-down-items-requires
 new-down-items-requires c =
     let a = asks_on c.requires.writable.ready 2 (omega arith) c.requires.writable.some in
