@@ -58,7 +58,7 @@ module _ (r : Record) (f : List ℕ) (n : ℕ) where
         let i = text_inside r f (taken-passes r f item-taken).0 in
         let q = item_within t at (ok-same (e ∙ ap (λ (v : Verdict). answered v (turn_of t at)) item-taken)) in
         let s : length t ≡ r.text = ap length (text_taken r f item-taken) ∙ length-peek f text_start r.text i.1 in
-        (q.0, omega arith, i.1)
+        (q.1, omega arith, i.1)
 
     -- the part of the file that a turn names is its string
     pub item_part : peek f (text_start + start) (end - start) ≡ get_or (strings_of t) n []

@@ -97,10 +97,11 @@ module _ (t : List ℕ) (at : ℕ) where
             record { here = omega arith; start_is = ap (λ (x : Item). x.start) q; end_is = ap (λ (x : Item). x.end) q; next_is = ap (λ (x : Item). x.next) q }
       ]
 
-  pub item_within : {x : Item} → Some x ≡ turn_of t at → (x.start ≤ x.end) × (x.end ≤ length t)
+  -- a string starts at the walker's place, and lies in the text
+  pub item_within : {x : Item} → Some x ≡ turn_of t at → (x.start ≡ at) × (x.start ≤ x.end) × (x.end ≤ length t)
   item_within {x} e =
       let p = item-found x.start x.end x.next e in
-      (omega (arith, end_low t at), omega (arith, end_high t at (omega arith)))
+      (p.start_is, omega (arith, end_low t at), omega (arith, end_high t at (omega arith)))
 
   -- a turn that is none
   pub turn-none : None ≡ turn_of t at → length t ≤ at
